@@ -1,0 +1,4 @@
+pub mod Piece
+pub mod Lex
+pub mod Grammar
+pub mod Laws
