@@ -1,0 +1,4 @@
+pub mod NameTable
+pub mod Program
+pub mod Straight
+pub mod Outcome
