@@ -1,0 +1,64 @@
+-- What an outline's program says of its stores and initial values.
+use Rattle.std.proofs.Common.{◌≡◌, ◌∙◌, sym, ap, refl, ℕ, zero, suc, ◌+◌, ◌<◌, ◌≤◌, List, [], ◌∷◌, ◌++◌, length, map, take, get_or, Option, Some, None, option_map, option_and_then, unwrap_or, slice_get, arith}
+use Rattle.pg_program.specs.declared.syntax.Stmt.{Stmt}
+use Rattle.pg_program.specs.Straight.{store_of, stores_of, straight}
+
+-- the list that is found, or the empty one
+abbrev pub found : {X : Type 0} → Option (List X) → List X
+found o = unwrap_or o []
+
+first_long : (o : Option (ℕ × ℕ)) (r : Option (List (ℕ × ℕ))) (n : ℕ) → length (found r) ≤ n → length (found (option_and_then (λ e. option_map (λ es. e ∷ es) r) o)) ≤ suc n
+first_long None r n h = omega arith
+first_long (Some e) None n h = omega arith
+first_long (Some e) (Some es) n h = omega arith
+
+stores_long : (ss : List Stmt) → length (found (stores_of ss)) ≤ length ss
+stores_long [] = omega arith
+stores_long (s ∷ ss) = first_long (store_of s) (stores_of ss) (length ss) (stores_long ss)
+
+-- the first thread has a statement for each store
+pub thread_long : (ts : List (List Stmt)) → length (found (straight ts)) ≤ length (get_or ts 0 [])
+thread_long [] = omega arith
+thread_long (t ∷ []) = stores_long t
+thread_long (t ∷ u ∷ ts) = omega arith
+
+first_found : (o : Option (ℕ × ℕ)) (r : Option (List (ℕ × ℕ))) → 0 < length (found (option_and_then (λ e. option_map (λ es. e ∷ es) r) o))
+    → o ≡ Some (get_or (found (option_and_then (λ e. option_map (λ es. e ∷ es) r) o)) 0 (0, 0))
+first_found None r h = absurd (omega arith)
+first_found (Some e) None h = absurd (omega arith)
+first_found (Some e) (Some es) h = refl
+
+later_found : (o : Option (ℕ × ℕ)) (r : Option (List (ℕ × ℕ))) (k : ℕ) → suc k < length (found (option_and_then (λ e. option_map (λ es. e ∷ es) r) o))
+    → (k < length (found r)) × (get_or (found (option_and_then (λ e. option_map (λ es. e ∷ es) r) o)) (suc k) (0, 0) ≡ get_or (found r) k (0, 0))
+later_found None r k h = absurd (omega arith)
+later_found (Some e) None k h = absurd (omega arith)
+later_found (Some e) (Some es) k h = (omega arith, refl)
+
+stores_found : (ss : List Stmt) (k : ℕ) (s : Stmt) → k < length (found (stores_of ss)) → Some s ≡ slice_get ss k → store_of s ≡ Some (get_or (found (stores_of ss)) k (0, 0))
+stores_found [] k s h at = absurd (omega arith)
+stores_found (t ∷ ss) zero s h at =
+    let same : s ≡ t = cc in
+    ap store_of same ∙ first_found (store_of t) (stores_of ss) h
+stores_found (t ∷ ss) (suc k) s h at =
+    let later = later_found (store_of t) (stores_of ss) k h in
+    stores_found ss k s later.0 at ∙ ap (λ (x : ℕ × ℕ). Some x) (sym later.1)
+
+-- the statement at a place is the store at that place
+pub store_found : (ts : List (List Stmt)) (k : ℕ) (s : Stmt) → k < length (found (straight ts)) → Some s ≡ slice_get (get_or ts 0 []) k → store_of s ≡ Some (get_or (found (straight ts)) k (0, 0))
+store_found [] k s h at = absurd (omega arith)
+store_found (t ∷ []) k s h at = stores_found t k s h at
+store_found (t ∷ u ∷ ts) k s h at = absurd (omega arith)
+
+-- a place within a list has an item
+pub slice_get_within : {X : Type 0} (xs : List X) (k : ℕ) → k < length xs → None ≡ slice_get xs k → ⊥
+slice_get_within [] k h e = absurd (omega arith)
+slice_get_within (x ∷ xs) zero h e = cc
+slice_get_within (x ∷ xs) (suc k) h e = slice_get_within xs k (omega arith) e
+
+-- one initial value more
+pub initial_more : (ls : List (List ℕ × ℕ)) (x v : ℕ) → option_map (λ e. e.1) (slice_get ls x) ≡ Some v → take (x + 1) (map (λ e. e.1) ls) ≡ take x (map (λ e. e.1) ls) ++ v ∷ []
+initial_more [] x v h = cc
+initial_more (l ∷ ls) zero v h = let same : l.1 ≡ v = cc in ap (λ (y : ℕ). y ∷ []) same
+initial_more (l ∷ ls) (suc x) v h =
+    let e : suc x + 1 ≡ suc (x + 1) = omega arith in
+    ap (λ (n : ℕ). take n (map (λ (e : List ℕ × ℕ). e.1) (l ∷ ls))) e ∙ ap (λ (r : List ℕ). l.1 ∷ r) (initial_more ls x v h)

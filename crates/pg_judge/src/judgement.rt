@@ -1,0 +1,66 @@
+//! Judging an outline of the first form.
+
+ghost use Rattle.std.specs.Prelude.{◌≡◌, ℕ, ◌+◌, ◌*◌, ◌<◌, ◌≤◌, ◌↔◌, IsTrue, IfOk, length};
+ghost use Rattle.pg_program.specs.Straight.{initial};
+ghost use Rattle.pg_judge.specs.Path.{path, IsPath, count, Follows};
+ghost use Rattle.pg_judge.specs.Judgement.{Judges, number_of};
+
+use crate::obligation::{PathKind, parts, path_kind};
+use crate::outline::PathOutline;
+use crate::valuation::{all_pass, passes};
+use pg_program::Names;
+use std::alloc::{AllocError, Global};
+
+/// How an outline is judged.
+#[derive(Clone, Copy, Debug, PartialEq, Eq)]
+pub enum PathJudgement {
+    /// All obligations follow, and there are this many.
+    Accepted { count: u32 },
+    /// The first obligation that does not follow, by its number from 1.
+    Rejected { i: u32 },
+}
+
+/// Judges every obligation, in their order, by trying all valuations, at most 4,096 for each.
+pub fn check_path(alloc: Global, o: &PathOutline) -> Result<PathJudgement, AllocError>
+    requires { IsPath (path o.now) }
+    ensures judged { IfOk result (Judges (path o.now)) }
+    ensures few { IfOk result (λ j. number_of j ≤ 65) }
+{
+    let mut values = initial_values(alloc, o.program.names())?;
+    let statements = o.notes.len() as u32 - 1;
+    let count = 3 + 2 * statements;
+    for i in 1..count + 1 {
+        if !follows(o, i, &mut values) {
+            return Ok(PathJudgement::Rejected { i });
+        }
+    }
+    Ok(PathJudgement::Accepted { count })
+}
+
+/// The initial value of each location.
+fn initial_values(alloc: Global, names: &Names) -> Result<Vec<u32>, AllocError>
+    ensures { IfOk result (λ v. v.items ≡ initial names.now) }
+{
+    let mut values = Vec::new(alloc);
+    for x in 0..names.locations() {
+        values.push(names.init(x))?;
+    }
+    Ok(values)
+}
+
+/// Whether an obligation follows. The values are the initial ones, and stay so.
+fn follows(o: &PathOutline, i: u32, values: &mut [u32]) -> bool
+    requires path { IsPath (path o.now) }
+    requires number { (1 ≤ i) × (i ≤ count (path o.now)) }
+    requires initial { values.old ≡ initial o.now.program.names }
+    ensures kept { values.new ≡ values.old }
+    ensures answer { IsTrue result ↔ Follows (path o.now) i }
+{
+    let names = o.program.names();
+    let kind = path_kind(i);
+    let obligation = parts(o, kind);
+    match kind {
+        PathKind::Fresh => passes(values, &obligation),
+        _ => all_pass(names.domain(), 0, values, &obligation),
+    }
+}
