@@ -1,0 +1,4 @@
+pub mod Answer
+pub mod Outcome
+pub mod Put
+pub mod Run

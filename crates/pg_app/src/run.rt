@@ -1,0 +1,138 @@
+//! The top call: from the words to a status and one line.
+//!
+//! What is promised. Over a room and a sink that tell their bytes, every status but those for a
+//! failed fetch, a failed put and want of memory is the defined one for the words and the file, and
+//! its whole line was written. A failed fetch or put is answered only where a count of faults rose.
+
+ghost use Rattle.std.specs.Prelude.{◌≡◌, ◌≢◌, ◌⊎◌, ◌+◌, ◌≤◌, ℕ, List, length, Some, IsSome, IsNone, IsSomeAnd, IfSome, IfNone, IfOk, Contains};
+ghost use Rattle.pg_io.specs.Counts.{Rose, RoseBy};
+ghost use Rattle.pg_io.specs.Written.{appended};
+ghost use Rattle.pg_app.specs.Answer.{longest_file, usage, too_long, name_of, Answers};
+ghost use Rattle.pg_app.specs.Outcome.{status_of};
+ghost use Rattle.pg_app.specs.Put.{Puts};
+ghost use Rattle.pg_app.specs.Run.{statuses, HasOneAnswer, IsAnswer, IsKnown, Writes, WritesPart, Ends};
+
+use crate::judge::{Outcome, judged};
+use crate::line::{outcome_line, too_long_line};
+use crate::status::{
+    ACCEPTED, NO_COMMAND, NO_MEMORY, NOT_FETCHED, NOT_WRITTEN, REFUSED, REJECTED, TOO_LONG,
+};
+use crate::words::checked_name;
+use pg_io::{Room, RoomFault, Sink, SinkFault};
+use std::alloc::{AllocError, Global};
+
+// The most bytes that a file may have.
+const LIMIT: u64 = 1_048_576;
+
+/// Does what the words say, and answers the status: `check NAME` fetches the file of this name from
+/// the room, judges it, and puts one line. This project's own.
+pub fn run<R: Room, K: Sink>(alloc: Global, words: &[String], room: &mut R, out: &mut K) -> u8
+    ensures range { Contains statuses result }
+
+    // What each of these statuses comes from.
+    ensures read_fault { result ≡ 6 → IsSomeAnd (name_of words.now) (λ name.
+        Rose (R.faults room.old name) (R.faults room.new name)) }
+    ensures nothing_read { result ≡ 6 → K.written out.new ≡ K.written out.old }
+    ensures write_fault { result ≡ 7 → Rose (K.faults out.old) (K.faults out.new) }
+    ensures too_long { result ≡ 10 → IsSome (name_of words.now)
+        × RoseBy (longest_file + 1) (R.taken room.old) (R.taken room.new) }
+    ensures usage { result ≡ 8 → IsNone (name_of words.now)
+        × (K.written out.new ≡ appended (K.written out.old) usage) }
+
+    // Words without a name.
+    ensures nameless { IfNone (name_of words.now) (result ≡ 8 ⊎ (result ≡ 7 ⊎ result ≡ 9)) }
+    ensures unasked { IfNone (name_of words.now) (room.new ≡ room.old) }
+
+    // What is answered and written, where the bytes of the name are told.
+    ensures defined { IsKnown (name_of words.now) (R.told room.old) → IsAnswer result →
+        Writes words.now (R.told room.old) result (K.written out.old) (K.written out.new) }
+    ensures only { HasOneAnswer words.now (R.told room.old) }
+    ensures part { IsKnown (name_of words.now) (R.told room.old) → result ≡ 7 ⊎ result ≡ 9 →
+        (K.written out.new ≡ K.written out.old)
+        ⊎ WritesPart words.now (R.told room.old) (K.written out.old) (K.written out.new) }
+    ensures complete { IsKnown (name_of words.now) (R.told room.old) →
+        IfSome (name_of words.now) (λ name. ¬ Rose (R.faults room.old name) (R.faults room.new name)) →
+        ¬ Rose (K.faults out.old) (K.faults out.new) →
+        Writes words.now (R.told room.old) result (K.written out.old) (K.written out.new)
+        ⊎ (result ≡ 9) }
+
+    // What stays.
+    ensures told { (n : List ℕ) → R.told room.new n ≡ R.told room.old n }
+{
+    match checked_name(words) {
+        Some(name) => check(alloc, name, room, out),
+        None => finish(out, NO_COMMAND, b"usage: check NAME\n"),
+    }
+}
+
+// Fetches and judges the file of this name.
+fn check<R: Room, K: Sink>(alloc: Global, name: &str, room: &mut R, out: &mut K) -> u8
+    ensures ends { Ends (Some name.now) (R.told room.old)
+        (R.faults room.old) (R.faults room.new) (R.taken room.old) (R.taken room.new)
+        result (K.written out.old) (K.written out.new) (K.faults out.old) (K.faults out.new) }
+    ensures told { (n : List ℕ) → R.told room.new n ≡ R.told room.old n }
+{
+    let mut bytes = Vec::new(alloc);
+    match room.fetch(name, LIMIT, &mut bytes) {
+        Ok(()) => answer(alloc, bytes.as_slice(), out),
+        Err(RoomFault::Failed) => NOT_FETCHED,
+        Err(RoomFault::TooLong(_)) => refuse_length(alloc, name, out),
+        Err(RoomFault::NoMemory) => NO_MEMORY,
+    }
+}
+
+// Answers a file of these bytes.
+fn answer<K: Sink>(alloc: Global, bytes: &[u8], out: &mut K) -> u8
+    requires { length bytes.now ≤ longest_file }
+    ensures { Puts (Answers bytes.now)
+        result (K.written out.old) (K.written out.new) (K.faults out.old) (K.faults out.new) }
+{
+    match judged_line(alloc, bytes) {
+        Ok((status, line)) => finish(out, status, line.as_slice()),
+        Err(_) => NO_MEMORY,
+    }
+}
+
+// The status and the line of a file of these bytes.
+fn judged_line(alloc: Global, bytes: &[u8]) -> Result<(u8, Vec<u8>), AllocError>
+    requires { length bytes.now ≤ longest_file }
+    ensures { IfOk result (λ answer. Answers bytes.now answer.0 answer.1.items) }
+{
+    let outcome = judged(alloc, bytes)?;
+    let line = outcome_line(alloc, outcome)?;
+    Ok((outcome_status(outcome), line))
+}
+
+// The status of an outcome.
+fn outcome_status(outcome: Outcome) -> u8
+    ensures { result ≡ status_of outcome }
+{
+    match outcome {
+        Outcome::Accepted { .. } => ACCEPTED,
+        Outcome::Rejected { .. } => REJECTED,
+        Outcome::NotOfForm => REFUSED,
+    }
+}
+
+// Answers that the file of this name is too long.
+fn refuse_length<K: Sink>(alloc: Global, name: &str, out: &mut K) -> u8
+    ensures { Puts (λ status text. (status ≡ 10) × (text ≡ too_long name.now))
+        result (K.written out.old) (K.written out.new) (K.faults out.old) (K.faults out.new) }
+{
+    match too_long_line(alloc, name) {
+        Ok(line) => finish(out, TOO_LONG, line.as_slice()),
+        Err(_) => NO_MEMORY,
+    }
+}
+
+// Puts the line, and answers its status unless it could not be written.
+fn finish<K: Sink>(out: &mut K, status: u8, line: &[u8]) -> u8
+    ensures { Puts (λ due text. (due ≡ status) × (text ≡ line.now))
+        result (K.written out.old) (K.written out.new) (K.faults out.old) (K.faults out.new) }
+{
+    match out.put(line) {
+        Ok(()) => status,
+        Err(SinkFault::Failed) => NOT_WRITTEN,
+        Err(SinkFault::NoMemory) => NO_MEMORY,
+    }
+}
