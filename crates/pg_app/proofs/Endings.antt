@@ -1,11 +1,12 @@
 -- How the parts of a call end the whole, and what an ending says.
-use Rattle.std.proofs.Common.{◌≡◌, ℕ, ◌<◌, ◌≤◌, ◌⊎◌, inl, inr, List, length, Option, None, Some, IsSome, IsSomeAnd, Contains, sym, subst, ◌∙◌, arith, lit<}
+use Rattle.std.proofs.Common.{◌≡◌, ℕ, ◌<◌, ◌≤◌, ◌⊎◌, inl, inr, List, length, Option, None, Some, IfSome, IsSome, IsSomeAnd, Contains, sym, subst, ◌∙◌, arith, lit<}
 use Rattle.std.proofs.Math.Seq.{take-length}
 use Rattle.pg_io.specs.Counts.{RoseBy}
 use Rattle.pg_io.specs.Told.{IsTold, IsTooLong}
 use Rattle.pg_io.specs.Written.{appended, AppendsPart}
 use Rattle.pg_app.specs.Answer.{longest_file, too_long, name_of, Answers, IsOverlong, IsAnswered, DefinedFor}
 use Rattle.pg_app.specs.Put.{Puts}
+use Rattle.pg_app.specs.Safety.{IsSafeText}
 use Rattle.pg_app.specs.Run.{statuses, IsKnown, WritesPart, IsLong, IsJudged, DueFor, Ends}
 use Rattle.std.specs.Prelude.{String}
 use Rattle.std.specs.declared.alloc.Global.{Global}
@@ -127,3 +128,31 @@ usage_written text (inr (inl cut)) is_usage =
     let differs : 7 ≡ 8 = sym cut.status_is ∙ is_usage in absurd (omega (arith, differs))
 usage_written text (inr (inr spent)) is_usage =
     let differs : 9 ≡ 8 = sym spent.status_is ∙ is_usage in absurd (omega (arith, differs))
+
+-- the bytes that are told are those of the safe outline
+told_safe : (told : Option (List ℕ)) (bytes : List ℕ) → IsTold told bytes → IsSafeText bytes → IfSome told (λ all. IsSafeText all)
+told_safe None bytes same safe = tt
+told_safe (Some all) bytes same safe = subst (λ (b : List ℕ). IsSafeText b) same safe
+
+-- a call that ends with acceptance was asked about a safe outline
+pub ends_safe : {name : List ℕ} {told : List ℕ → Option (List ℕ)} {faults faults_now : List ℕ → ℕ} {taken taken_now status : ℕ} {old new : Option (List ℕ)} {before now : ℕ} → Ends (Some name) told faults faults_now taken taken_now status old new before now → status ≡ 0 → IfSome (told name) (λ bytes. IsSafeText bytes)
+ends_safe {name} {told} {faults} {faults_now} {taken} {taken_now} {status} ends is_zero =
+    elim ends.how [
+      | inl puts ↦ elim puts [
+        | inl whole ↦ elim whole.due [
+          | inl long ↦ absurd (omega (arith, is_zero, long.status_is))
+          | inr judged ↦ elim judged.answers [
+            | inl accepted ↦ told_safe (told name) judged.bytes judged.told_are (record { source = accepted.source; stands = accepted.stands; safe = accepted.safe })
+            | inr others ↦ elim others [
+              | inl rejected ↦ absurd (omega (arith, is_zero, rejected.status_is))
+              | inr refused ↦ absurd (omega (arith, is_zero, refused.status_is))
+            ]
+          ]
+        ]
+        | inr others ↦ elim others [
+          | inl cut ↦ absurd (omega (arith, is_zero, cut.status_is))
+          | inr spent ↦ absurd (omega (arith, is_zero, spent.status_is))
+        ]
+      ]
+      | inr unfetched ↦ absurd (omega (arith, is_zero, unfetched.status_is))
+    ]

@@ -8,6 +8,7 @@ use Rattle.pg_judge.specs.declared.obligation.PathKind.TheVariants.{Fresh, Entry
 use Rattle.pg_judge.specs.Path.{AllFollow, IsFirstFailing, count, kind}
 use Rattle.pg_path_text.specs.Form.{Source, StandsFor}
 use Rattle.pg_path_text.specs.Outline.{path_of}
+use Rattle.pg_app.specs.Safety.{IsSafeSource}
 
 -- the most bytes that a file may have
 abbrev pub longest_file : ℕ
@@ -54,11 +55,12 @@ name_of (command ∷ name ∷ []) =
     if bytes_eq (string_bytes command) (codes "check") then non_empty (string_bytes name) else None
 name_of (command ∷ name ∷ word ∷ words) = None
 
--- the bytes stand for an outline each of whose obligations follows
+-- the bytes stand for an outline each of whose obligations follows, and which is safe
 pub record IsAccepted (bytes : List ℕ) (status : ℕ) (text : List ℕ) : Type 0 where
   pub source : Source
   pub stands : StandsFor bytes source
   pub follow : AllFollow (path_of source)
+  pub safe : IsSafeSource source
   pub status_is : status ≡ 0
   pub text_is : text ≡ accepted (count (path_of source))
 

@@ -5,17 +5,19 @@ use Rattle.pg_app.specs.declared.judge.Outcome.TheVariants.{Accepted, Rejected, 
 use Rattle.pg_judge.specs.Path.{AllFollow, IsFirstFailing, count, kind}
 use Rattle.pg_path_text.specs.Form.{Source, StandsFor}
 use Rattle.pg_path_text.specs.Outline.{path_of}
+use Rattle.pg_app.specs.Safety.{IsSafeSource}
 use Rattle.pg_app.specs.Answer.{accepted, rejected, refused}
 
 -- an obligation's number, of which there are fewer than 256
 abbrev pub IsNumber : ℕ → Type 0
 IsNumber i = (1 ≤ i) × (i < 256)
 
--- the bytes stand for an outline each of whose n obligations follows
+-- the bytes stand for an outline each of whose n obligations follows, and which is safe
 pub record IsAcceptance (bytes : List ℕ) (n : ℕ) : Type 0 where
   pub source : Source
   pub stands : StandsFor bytes source
   pub follow : AllFollow (path_of source)
+  pub safe : IsSafeSource source
   pub number : n ≡ count (path_of source)
 
 -- the bytes stand for an outline whose obligation i is the first that does not follow

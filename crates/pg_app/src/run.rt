@@ -10,6 +10,7 @@ ghost use Rattle.pg_io.specs.Written.{appended};
 ghost use Rattle.pg_app.specs.Answer.{longest_file, usage, too_long, name_of, Answers};
 ghost use Rattle.pg_app.specs.Outcome.{status_of};
 ghost use Rattle.pg_app.specs.Put.{Puts};
+ghost use Rattle.pg_app.specs.Safety.{IsSafeText};
 ghost use Rattle.pg_app.specs.Run.{statuses, HasOneAnswer, IsAnswer, IsKnown, Writes, WritesPart, Ends};
 
 use crate::judge::{Outcome, judged};
@@ -55,6 +56,11 @@ pub fn run<R: Room, K: Sink>(alloc: Global, words: &[String], room: &mut R, out:
         ¬ Rose (K.faults out.old) (K.faults out.new) →
         Writes words.now (R.told room.old) result (K.written out.old) (K.written out.new)
         ⊎ (result ≡ 9) }
+
+    // What acceptance claims: in every execution of the machine, of any length, the assertions hold,
+    // and after each crash the crash formula.
+    ensures safe { result ≡ 0 → IfSome (name_of words.now) (λ name.
+        IfSome (R.told room.old name) (λ bytes. IsSafeText bytes)) }
 
     // What stays.
     ensures told { (n : List ℕ) → R.told room.new n ≡ R.told room.old n }

@@ -1,3 +1,4 @@
 pub mod Judgement
 pub mod Obligation
 pub mod Path
+pub mod Meaning

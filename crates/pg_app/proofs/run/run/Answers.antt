@@ -1,7 +1,7 @@
 -- What the ending of a call says of its status and of what was written.
 use Rattle.std.proofs.Common.{refl}
 use Rattle.pg_app.specs.Answer.{usage}
-use Rattle.pg_app.proofs.Endings.{ends_in_range, ends_part, usage_written}
+use Rattle.pg_app.proofs.Endings.{ends_in_range, ends_part, ends_safe, usage_written}
 use Rattle.pg_app.proofs.OneAnswer.{one_answer}
 use Rattle.pg_app.proofs.run.run.Goals as goal
 
@@ -21,3 +21,6 @@ returns-in-Some-clause-only g c = one_answer c.args.words.now _
 
 pub returns-in-None-clause-only : goal.returns-in-None-clause-only
 returns-in-None-clause-only g c = one_answer c.args.words.now _
+
+pub returns-in-Some-clause-safe : goal.returns-in-Some-clause-safe
+returns-in-Some-clause-safe g c = λ is_zero. rw (← c.in-Some.ensures) (ends_safe c.check.ensures.ends is_zero)

@@ -1,0 +1,199 @@
+-- An outline whose obligations follow is safe: by induction over executions, the assertion at the thread's point
+-- holds in each state.
+use Rattle.std.proofs.Common.{◌≡◌, ℕ, zero, suc, ◌+◌, ◌-◌, ◌*◌, ◌/◌, ◌%◌, ◌<◌, ◌≤◌, ◌==◌, Bool, true, false, cond, List, [], ◌∷◌, length, get_or, Option, Some, IsSomeAnd, slice_get, refl, sym, ap, subst, ◌∙◌, arith}
+use Rattle.std.specs.List.{All}
+use Rattle.std.proofs.lemmas.Bool.{ne_eqb}
+use Rattle.std.proofs.lemmas.List.{length-set, get_or-set_same}
+use Rattle.std.proofs.lemmas.List.Elements.{All-nil, All-cons, All-get_or, All-weaker}
+use Rattle.pg_program.specs.declared.syntax.Stmt.{Stmt}
+use Rattle.pg_program.specs.Program.{stmt_at}
+use Rattle.pg_program.specs.Straight.{store_of, straight, initial}
+use Rattle.pg_program.proofs.StraightLemmas.{length-stores}
+use Rattle.pg_machine.specs.declared.event.Event.{Event}
+use Rattle.pg_machine.specs.Memory.{Memory, last_value}
+use Rattle.pg_machine.specs.State.{State, point_of}
+use Rattle.pg_machine.specs.Step.{stored, moved, Stores, IsStep}
+use Rattle.pg_judge.specs.declared.outline.PathLit.{PathLit}
+use Rattle.pg_judge.specs.declared.obligation.PathKind.{PathKind}
+use Rattle.pg_judge.specs.declared.obligation.PathKind.TheVariants.{Fresh, Entry, EntryCrash, Local, Crash}
+use Rattle.pg_judge.specs.Path.{Path, IsPath, IsLit, IsValuation, Considers, AllFollow, meets_all, given, after, goal, note, store, after_store, kind}
+use Rattle.pg_judge.specs.Meaning.{Outline, holds, note_at, IsStart, Leads, IsSafeIn, IsSafe}
+use Rattle.pg_judge.proofs.Stores.{found, store_found}
+use Rattle.pg_judge.proofs.LastValues.{last_values, length-last_values, last_values-below, last_values-appended, last_value-below, last_value-stays_below, holds-meets}
+
+-- the outline is of the form, and these are its parts
+pub record IsOf (o : Outline) (p : Path) : Type 0 where
+  pub domain : o.program.names.domain ≡ p.domain
+  pub initial : initial o.program.names ≡ p.initial
+  pub pre : o.pre ≡ p.pre
+  pub notes : o.notes ≡ p.notes ∷ []
+  pub stores : straight o.program.threads ≡ Some p.stores
+  pub within : All (λ s. (s.0 < length p.initial) × (s.1 < p.domain)) p.stores
+  pub path : IsPath p
+
+-- what every state of an execution has
+record Holds (o : Outline) (p : Path) (s : State) : Type 0 where
+  pub initial : s.memory.initial ≡ p.initial
+  pub below : (x : ℕ) → x < length s.memory.initial → last_value s.memory x < p.domain
+  pub pointed : length s.points ≡ 1
+  pub from : 1 ≤ point_of s 1
+  pub to : point_of s 1 ≤ length p.notes
+  pub holds : holds s (note p (point_of s 1)) ≡ true
+
+-- ---- obligations
+
+local_kind : (k : ℕ) → 1 ≤ k → kind (2 * k + 2) ≡ Local k
+local_kind k h =
+    let i = 2 * k + 2 in
+    let one : (i == 1) ≡ false = ne_eqb i 1 (λ e. absurd (omega (arith, e))) in
+    let two : (i == 2) ≡ false = ne_eqb i 2 (λ e. absurd (omega (arith, e))) in
+    let three : (i == 3) ≡ false = ne_eqb i 3 (λ e. absurd (omega (arith, e))) in
+    let rest : i % 2 ≡ 0 = omega arith in
+    let half : i / 2 - 1 ≡ k = omega arith in
+    ap (λ (b : Bool). cond b Fresh (cond (i == 2) Entry (cond (i == 3) EntryCrash (cond (i % 2 == 0) (Local (i / 2 - 1)) (Crash (i / 2 - 1)))))) one
+    ∙ (ap (λ (b : Bool). cond b Entry (cond (i == 3) EntryCrash (cond (i % 2 == 0) (Local (i / 2 - 1)) (Crash (i / 2 - 1))))) two
+    ∙ (ap (λ (b : Bool). cond b EntryCrash (cond (i % 2 == 0) (Local (i / 2 - 1)) (Crash (i / 2 - 1)))) three
+    ∙ (ap (λ (r : ℕ). cond (r == 0) (Local (i / 2 - 1)) (Crash (i / 2 - 1))) rest
+    ∙ ap Local half)))
+
+-- what the obligation of this kind says
+Says : Path → PathKind → Type 0
+Says p c = (w : List ℕ) → Considers p c w → meets_all w (given p c) ≡ true → meets_all (after p c w) (goal p c) ≡ true
+
+local_follows : (p : Path) (k : ℕ) → AllFollow p → 1 ≤ k → k ≤ length p.stores → (w : List ℕ) → IsValuation p w → meets_all w (note p k) ≡ true → meets_all (after_store (store p k) w) (note p (k + 1)) ≡ true
+unfolding Says
+local_follows p k all from to = subst (λ (c : PathKind). Says p c) (local_kind k from) (all (2 * k + 2) (omega arith) (omega (arith, to)))
+
+entry_follows : (p : Path) → AllFollow p → (w : List ℕ) → IsValuation p w → meets_all w p.pre ≡ true → meets_all w (note p 1) ≡ true
+entry_follows p all = all 2 (omega arith) (omega arith)
+
+-- ---- the one thread
+
+one_thread : (ts : List (List Stmt)) (stores : List (ℕ × ℕ)) → straight ts ≡ Some stores → length ts ≡ 1
+one_thread [] stores e = cc
+one_thread (t ∷ []) stores e = refl
+one_thread (t ∷ u ∷ ts) stores e = cc
+
+thread_stores : (ts : List (List Stmt)) (stores : List (ℕ × ℕ)) → straight ts ≡ Some stores → length (get_or ts 0 []) ≡ length stores
+thread_stores [] stores e = cc
+thread_stores (t ∷ []) stores e = length-stores t stores e
+thread_stores (t ∷ u ∷ ts) stores e = cc
+
+get-inside : {X : Type 0} (xs : List X) (k : ℕ) (x : X) → slice_get xs k ≡ Some x → k < length xs
+get-inside [] k x e = cc
+get-inside (a ∷ xs) zero x e = omega arith
+get-inside (a ∷ xs) (suc k) x e = let h = get-inside xs k x e in omega (arith, h)
+
+-- ---- assertions
+
+note_lits : (p : Path) (s : State) (k : ℕ) → IsPath p → s.memory.initial ≡ p.initial → 1 ≤ k → k ≤ length p.notes → All (λ l. l.x < length s.memory.initial) (note p k)
+note_lits p s k path same from to =
+    let long = ap length same in
+    All-weaker (IsLit p) (λ (l : PathLit). l.x < length s.memory.initial) (λ l is. let q = is.0 in omega (arith, long, q)) (note p k)
+    (All-get_or (λ (n : List PathLit). All (IsLit p) n) p.notes (k - 1) [] (omega arith) path.notes)
+
+pre_lits : (p : Path) (s : State) → IsPath p → s.memory.initial ≡ p.initial → All (λ l. l.x < length s.memory.initial) p.pre
+pre_lits p s path same =
+    let long = ap length same in
+    All-weaker (IsLit p) (λ (l : PathLit). l.x < length s.memory.initial) (λ l is. let q = is.0 in omega (arith, long, q)) p.pre path.pre
+
+is_valuation : (p : Path) (m : Memory) → m.initial ≡ p.initial → ((x : ℕ) → x < length m.initial → last_value m x < p.domain) → IsValuation p (last_values m)
+is_valuation p m same below = record { size = length-last_values m ∙ ap length same; below = last_values-below m p.domain below }
+
+-- ---- the first state
+
+start : (o : Outline) (p : Path) (s : State) → IsOf o p → AllFollow p → IsStart o s → Holds o p s
+start o p s of all h =
+    let same = h.formed.memory.initial ∙ of.initial in
+    let one = one_thread o.program.threads p.stores of.stores in
+    let pointed : length s.points ≡ 1 = h.formed.pointed ∙ one in
+    let at : point_of s 1 ≡ 1 = All-get_or (λ (k : ℕ). k ≡ 1) s.points 0 0 (omega (arith, pointed)) h.first in
+    let below : (x : ℕ) → x < length s.memory.initial → last_value s.memory x < p.domain =
+    λ x lt. subst (λ (d : ℕ). last_value s.memory x < d) of.domain (last_value-below s.memory o.program.names.domain x h.formed.memory.values h.formed.memory.messages lt) in
+    let notes = of.path.one_note_a_point in
+    let pre : meets_all (last_values s.memory) p.pre ≡ true =
+    sym (holds-meets s p.pre (pre_lits p s of.path same)) ∙ subst (λ (ls : List PathLit). holds s ls ≡ true) of.pre h.pre in
+    record {
+      initial = same;
+      below = below;
+      pointed = pointed;
+      from = omega (arith, at);
+      to = omega (arith, at, notes);
+      holds = subst (λ (k : ℕ). holds s (note p k) ≡ true) (sym at)
+          (holds-meets s (note p 1) (note_lits p s 1 of.path same (omega arith) (omega (arith, notes)))
+          ∙ entry_follows p all (last_values s.memory) (is_valuation p s.memory same below) pre);
+    }
+
+-- ---- a step
+
+after_step : (o : Outline) (p : Path) (s : State) (k : ℕ) → IsOf o p → AllFollow p → Holds o p s → point_of s 1 ≡ k → k ≤ length p.stores → Holds o p (moved (stored s 1 (store p k)) 1)
+after_step o p s k of all h at to =
+    let next = moved (stored s 1 (store p k)) 1 in
+    let from : 1 ≤ k = let f = h.from in omega (arith, at, f) in
+    let notes = of.path.one_note_a_point in
+    let st = All-get_or (λ (t : ℕ × ℕ). (t.0 < length p.initial) × (t.1 < p.domain)) p.stores (k - 1) (0, 0) (omega (arith, from, to)) of.within in
+    let long = ap length h.initial in
+    let inside : (store p k).0 < length s.memory.initial = let q = st.0 in omega (arith, long, q) in
+    let pointed = h.pointed in
+    let moves : point_of next 1 ≡ k + 1 = get_or-set_same s.points 0 (point_of s 1 + 1) 0 (omega (arith, pointed)) ∙ ap (λ (n : ℕ). n + 1) at in
+    let here : holds s (note p k) ≡ true = subst (λ (n : ℕ). holds s (note p n) ≡ true) at h.holds in
+    let met : meets_all (last_values s.memory) (note p k) ≡ true =
+    sym (holds-meets s (note p k) (note_lits p s k of.path h.initial from (omega (arith, notes, to)))) ∙ here in
+    let then_met = local_follows p k all from to (last_values s.memory) (is_valuation p s.memory h.initial h.below) met in
+    record {
+      initial = h.initial;
+      below = λ x lt. last_value-stays_below s.memory (store p k) p.domain x st.1 (h.below x lt);
+      pointed = length-set s.points 0 (point_of s 1 + 1) ∙ pointed;
+      from = omega (arith, moves);
+      to = omega (arith, moves, notes, to);
+      holds = subst (λ (n : ℕ). holds next (note p n) ≡ true) (sym moves)
+          (holds-meets next (note p (k + 1)) (note_lits p next (k + 1) of.path h.initial (omega arith) (omega (arith, notes, to)))
+          ∙ (ap (λ (w : List ℕ). meets_all w (note p (k + 1))) (sym (last_values-appended s.memory (store p k) inside)) ∙ then_met));
+    }
+
+-- the statement of a step is the store at the thread's point
+effect_of : (s next : State) (e : Event) (o : Option (ℕ × ℕ)) (st : ℕ × ℕ) → o ≡ Some st → IsSomeAnd o (λ t. Stores s e t next) → Stores s e st next
+effect_of s next e o st is h = subst (λ (q : Option (ℕ × ℕ)). IsSomeAnd q (λ t. Stores s e t next)) is h
+
+step : (o : Outline) (p : Path) (s : State) (e : Event) (next : State) → IsOf o p → AllFollow p → Holds o p s → IsStep o.program s e next → Holds o p next
+step o p s e next of all h is =
+    let one = one_thread o.program.threads p.stores of.stores in
+    let low = is.thread.0 in
+    let high = is.thread.1 in
+    let first : e.thread ≡ 1 = omega (arith, one, low, high) in
+    let k = point_of s 1 in
+    let ts = o.program.threads in
+    let stands : slice_get (get_or ts 0 []) (k - 1) ≡ Some is.stmt = subst (λ (t : ℕ). stmt_at o.program t (point_of s t) ≡ Some is.stmt) first is.stands in
+    let inside = get-inside (get_or ts 0 []) (k - 1) is.stmt stands in
+    let size = thread_stores ts p.stores of.stores in
+    let same : found (straight ts) ≡ p.stores = ap (λ (q : Option (List (ℕ × ℕ))). found q) of.stores in
+    let sizes = ap length same in
+    let stores : store_of is.stmt ≡ Some (store p k) =
+    store_found ts (k - 1) is.stmt (omega (arith, inside, size, sizes)) (sym stands) ∙ ap (λ (l : List (ℕ × ℕ)). Some (get_or l (k - 1) (0, 0))) same in
+    let effect = effect_of s next e (store_of is.stmt) (store p k) stores is.effect in
+    let becomes : next ≡ moved (stored s 1 (store p k)) 1 = effect.1 ∙ ap (λ (t : ℕ). moved (stored s t (store p k)) t) first in
+    let from = h.from in
+    subst (λ (q : State). Holds o p q) (sym becomes) (after_step o p s k of all h refl (omega (arith, inside, size, from)))
+
+-- ---- executions
+
+is_safe_in : (o : Outline) (p : Path) (s : State) → IsOf o p → Holds o p s → IsSafeIn o s
+is_safe_in o p s of h = record {
+  assertions = λ t low high.
+      let one = one_thread o.program.threads p.stores of.stores in
+      let first : t ≡ 1 = omega (arith, one, low, high) in
+      subst (λ (n : ℕ). holds s (note_at o n (point_of s n)) ≡ true) (sym first)
+      (subst (λ (notes : List (List (List PathLit))). holds s (get_or (get_or notes 0 []) (point_of s 1 - 1) []) ≡ true) (sym of.notes) h.holds);
+  crash = λ ps choice. refl;
+}
+
+runs : (o : Outline) (p : Path) → IsOf o p → AllFollow p → (s : State) (events : List Event) (states : List State) → Holds o p s → Leads o.program s events states → All (IsSafeIn o) (s ∷ states)
+runs o p of all s [] [] h steps = All-cons (IsSafeIn o) s [] (is_safe_in o p s of h) (All-nil (IsSafeIn o))
+runs o p of all s [] (next ∷ states) h steps = absurd steps
+runs o p of all s (e ∷ events) [] h steps = absurd steps
+runs o p of all s (e ∷ events) (next ∷ states) h steps =
+    All-cons (IsSafeIn o) s (next ∷ states) (is_safe_in o p s of h) (runs o p of all next events states (step o p s e next of all h steps.0) steps.1)
+
+pub safe : (o : Outline) (p : Path) → IsOf o p → AllFollow p → IsSafe o
+safe o p of all = λ first events states execution.
+    runs o p of all first events states (start o p first of all execution.start) execution.steps

@@ -1,0 +1,81 @@
+-- States of the machine, and the well-formed ones.
+use Rattle.std.specs.Prelude.{◌≡◌, ℕ, ◌-◌, ◌+◌, ◌<◌, ◌≤◌, max, true, List, [], ◌∷◌, length, map, All, replicate, slice_index}
+use Rattle.pg_program.specs.NameTable.{NameTable}
+use Rattle.pg_program.specs.Straight.{initial}
+use Rattle.pg_program.specs.Program.{ProgramTable, thread_of}
+use Rattle.pg_machine.specs.Memory.{Memory, is_at}
+
+-- The views of a thread, which are positions: for each location its coherence view, the read view, the ready
+-- view, and for each location the asynchronous view and the committed view.
+pub record Views : Type 0 where
+  pub coh : List ℕ
+  pub vrn : ℕ
+  pub vpr : ℕ
+  pub vpa : List ℕ
+  pub vpc : List ℕ
+
+-- the memory, the views of each thread, the value of each scalar, and the point of each thread
+pub record State : Type 0 where
+  pub memory : Memory
+  pub views : List Views
+  pub scalars : List ℕ
+  pub points : List ℕ
+
+-- the greatest of some positions, and 0 of none
+abbrev pub greatest : List ℕ → ℕ
+greatest [] = 0
+greatest (p ∷ ps) = max p (greatest ps)
+
+-- a thread's greatest coherence view
+abbrev pub maxcoh : Views → ℕ
+maxcoh w = greatest w.coh
+
+-- what was committed to x: the greatest committed view of x of all threads
+abbrev pub committed : State → ℕ → ℕ
+committed s x = greatest (map (λ w. slice_index w.vpc x) s.views)
+
+-- the point of thread t, both numbered from 1
+abbrev pub point_of : State → ℕ → ℕ
+point_of s t = slice_index s.points (t - 1)
+
+-- a coherence view of x is a position of x
+abbrev pub AreCoherent : Memory → List ℕ → Type 0
+AreCoherent m coh =
+    (x : ℕ) → x < length m.initial → (slice_index coh x ≤ length m.messages) × (is_at m.messages x (slice_index coh x) ≡ true)
+
+-- the views of a thread over a memory
+pub record AreViews (m : Memory) (w : Views) : Type 0 where
+  pub size : (length w.coh ≡ length m.initial) × ((length w.vpa ≡ length m.initial) × (length w.vpc ≡ length m.initial))
+  pub coherent : AreCoherent m w.coh
+  pub read : w.vrn ≤ w.vpr
+  pub ready : w.vpr ≤ maxcoh w
+  pub asynchronous : All (λ p. p ≤ maxcoh w) w.vpa
+  pub committed : All (λ p. p ≤ maxcoh w) w.vpc
+
+-- a memory over names: their initial values, and messages to their locations with values of the domain
+pub record IsMemory (names : NameTable) (m : Memory) : Type 0 where
+  pub initial : m.initial ≡ initial names
+  pub values : All (λ v. v < names.domain) m.initial
+  pub messages : All (λ s. (s.0 < length m.initial) × (s.1 < names.domain)) m.messages
+
+-- a state of a program that is well formed: each part has its size, each view is a position as it should be, each
+-- value is in the domain, and each thread stands at one of its points
+pub record IsWellFormed (p : ProgramTable) (s : State) : Type 0 where
+  pub memory : IsMemory p.names s.memory
+  pub threads : length s.views ≡ length p.threads
+  pub views : All (AreViews s.memory) s.views
+  pub scalars : (length s.scalars ≡ length p.names.scalars) × All (λ v. v < p.names.domain) s.scalars
+  pub pointed : length s.points ≡ length p.threads
+  pub points : (t : ℕ) → 1 ≤ t → t ≤ length p.threads → (1 ≤ point_of s t) × (point_of s t ≤ length (thread_of p t) + 1)
+
+-- the fresh state: no message, all positions and scalars 0, and each thread at its first point
+abbrev pub fresh_views : ℕ → Views
+fresh_views n = record { coh = replicate n 0; vrn = 0; vpr = 0; vpa = replicate n 0; vpc = replicate n 0 }
+
+abbrev pub fresh : ProgramTable → State
+fresh p = record {
+  memory = record { initial = initial p.names; messages = [] };
+  views = map (λ t. fresh_views (length p.names.locations)) p.threads;
+  scalars = map (λ e. 0) p.names.scalars;
+  points = map (λ t. 1) p.threads;
+}
