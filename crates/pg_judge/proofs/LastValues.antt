@@ -1,12 +1,12 @@
 -- The last values of a memory are a valuation, at which assertions are true as they are in a state.
 use Rattle.std.proofs.Common.{◌≡◌, ℕ, zero, suc, ◌<◌, ◌≤◌, ◌==◌, Bool, true, false, cond, not, ◌&&◌, List, [], ◌∷◌, length, get_or, set, refl, sym, ap, subst, ◌∙◌, arith}
 use Rattle.std.specs.List.{All, list_all}
-use Rattle.std.proofs.lemmas.Bool.{ne_eqb, eqb-false}
+use Rattle.std.proofs.lemmas.Bool.{ne_eqb}
 use Rattle.std.proofs.lemmas.List.Elements.{All-head, All-tail, All-get_or, All-from_get_or}
 use Rattle.pg_machine.specs.Memory.{Memory, value_at, last, last_value}
 use Rattle.pg_machine.specs.State.{State}
 use Rattle.pg_machine.specs.Step.{message_appended}
-use Rattle.pg_machine.proofs.Appended.{last_upto-within, last_value-appended}
+use Rattle.pg_machine.proofs.Appended.{same_number, last_upto-within, last_value-appended}
 use Rattle.pg_judge.specs.declared.outline.PathLit.{PathLit}
 use Rattle.pg_judge.specs.Path.{meets, meets_all}
 use Rattle.pg_judge.specs.Meaning.{literal_holds, holds}
@@ -59,12 +59,13 @@ last_values-below m d below =
     let inside : i < length m.initial = omega arith in
     subst (λ (v : ℕ). v < d) (sym (get-values (last_value m) (length m.initial) i inside)) (below i inside))
 
-same_number : (x : ℕ) → (x == x) ≡ true
-same_number x = by (x == x) refl
-  where
-    by : (b : Bool) → (x == x) ≡ b → (x == x) ≡ true
-    by true e = e
-    by false e = absurd (eqb-false x x e refl)
+values-list : (l : List ℕ) → values_of (λ x. get_or l x 0) (length l) ≡ l
+values-list [] = refl
+values-list (v ∷ l) = ap (λ (r : List ℕ). v ∷ r) (values-list l)
+
+-- without messages they are the initial values
+pub last_values-fresh : (l : List ℕ) → last_values (record { initial = l; messages = [] }) ≡ l
+last_values-fresh l = values-list l
 
 -- a store to a location changes its last value alone
 pub last_values-appended : (m : Memory) (st : ℕ × ℕ) → st.0 < length m.initial → set (last_values m) st.0 st.1 ≡ last_values (message_appended m st)

@@ -1,25 +1,24 @@
 -- An outline whose obligations follow is safe: by induction over executions, the assertion at the thread's point
 -- holds in each state.
-use Rattle.std.proofs.Common.{◌≡◌, ℕ, zero, suc, ◌+◌, ◌-◌, ◌*◌, ◌/◌, ◌%◌, ◌<◌, ◌≤◌, ◌==◌, Bool, true, false, cond, List, [], ◌∷◌, length, get_or, Option, Some, IsSomeAnd, slice_get, refl, sym, ap, subst, ◌∙◌, arith}
+use Rattle.std.proofs.Common.{◌≡◌, ℕ, ◌+◌, ◌-◌, ◌*◌, ◌/◌, ◌%◌, ◌<◌, ◌≤◌, ◌==◌, Bool, true, false, cond, List, [], ◌∷◌, length, get_or, Some, refl, sym, ap, subst, ◌∙◌, arith}
 use Rattle.std.specs.List.{All}
 use Rattle.std.proofs.lemmas.Bool.{ne_eqb}
 use Rattle.std.proofs.lemmas.List.{length-set, get_or-set_same}
 use Rattle.std.proofs.lemmas.List.Elements.{All-nil, All-cons, All-get_or, All-weaker}
-use Rattle.pg_program.specs.declared.syntax.Stmt.{Stmt}
-use Rattle.pg_program.specs.Program.{stmt_at}
-use Rattle.pg_program.specs.Straight.{store_of, straight, initial}
-use Rattle.pg_program.proofs.StraightLemmas.{length-stores}
+use Rattle.pg_program.specs.Program.{IsProgram}
+use Rattle.pg_program.specs.Straight.{straight, initial}
 use Rattle.pg_machine.specs.declared.event.Event.{Event}
 use Rattle.pg_machine.specs.Memory.{Memory, last_value}
-use Rattle.pg_machine.specs.State.{State, point_of}
-use Rattle.pg_machine.specs.Step.{stored, moved, Stores, IsStep}
+use Rattle.pg_machine.specs.State.{State, point_of, fresh}
+use Rattle.pg_machine.specs.Step.{stored, moved, IsStep}
+use Rattle.pg_machine.proofs.Steps.{one_thread, step_stores}
+use Rattle.pg_machine.proofs.WellFormed.{All-constant, fresh_is_well_formed}
 use Rattle.pg_judge.specs.declared.outline.PathLit.{PathLit}
 use Rattle.pg_judge.specs.declared.obligation.PathKind.{PathKind}
 use Rattle.pg_judge.specs.declared.obligation.PathKind.TheVariants.{Fresh, Entry, EntryCrash, Local, Crash}
 use Rattle.pg_judge.specs.Path.{Path, IsPath, IsLit, IsValuation, Considers, AllFollow, meets_all, given, after, goal, note, store, after_store, kind}
 use Rattle.pg_judge.specs.Meaning.{Outline, holds, note_at, IsStart, Leads, IsSafeIn, IsSafe}
-use Rattle.pg_judge.proofs.Stores.{found, store_found}
-use Rattle.pg_judge.proofs.LastValues.{last_values, length-last_values, last_values-below, last_values-appended, last_value-below, last_value-stays_below, holds-meets}
+use Rattle.pg_judge.proofs.LastValues.{last_values, length-last_values, last_values-below, last_values-appended, last_values-fresh, last_value-below, last_value-stays_below, holds-meets}
 
 -- the outline is of the form, and these are its parts
 pub record IsOf (o : Outline) (p : Path) : Type 0 where
@@ -67,23 +66,6 @@ local_follows p k all from to = subst (λ (c : PathKind). Says p c) (local_kind 
 entry_follows : (p : Path) → AllFollow p → (w : List ℕ) → IsValuation p w → meets_all w p.pre ≡ true → meets_all w (note p 1) ≡ true
 entry_follows p all = all 2 (omega arith) (omega arith)
 
--- ---- the one thread
-
-one_thread : (ts : List (List Stmt)) (stores : List (ℕ × ℕ)) → straight ts ≡ Some stores → length ts ≡ 1
-one_thread [] stores e = cc
-one_thread (t ∷ []) stores e = refl
-one_thread (t ∷ u ∷ ts) stores e = cc
-
-thread_stores : (ts : List (List Stmt)) (stores : List (ℕ × ℕ)) → straight ts ≡ Some stores → length (get_or ts 0 []) ≡ length stores
-thread_stores [] stores e = cc
-thread_stores (t ∷ []) stores e = length-stores t stores e
-thread_stores (t ∷ u ∷ ts) stores e = cc
-
-get-inside : {X : Type 0} (xs : List X) (k : ℕ) (x : X) → slice_get xs k ≡ Some x → k < length xs
-get-inside [] k x e = cc
-get-inside (a ∷ xs) zero x e = omega arith
-get-inside (a ∷ xs) (suc k) x e = let h = get-inside xs k x e in omega (arith, h)
-
 -- ---- assertions
 
 note_lits : (p : Path) (s : State) (k : ℕ) → IsPath p → s.memory.initial ≡ p.initial → 1 ≤ k → k ≤ length p.notes → All (λ l. l.x < length s.memory.initial) (note p k)
@@ -105,7 +87,7 @@ is_valuation p m same below = record { size = length-last_values m ∙ ap length
 start : (o : Outline) (p : Path) (s : State) → IsOf o p → AllFollow p → IsStart o s → Holds o p s
 start o p s of all h =
     let same = h.formed.memory.initial ∙ of.initial in
-    let one = one_thread o.program.threads p.stores of.stores in
+    let one = (one_thread o.program.threads p.stores of.stores).0 in
     let pointed : length s.points ≡ 1 = h.formed.pointed ∙ one in
     let at : point_of s 1 ≡ 1 = All-get_or (λ (k : ℕ). k ≡ 1) s.points 0 0 (omega (arith, pointed)) h.first in
     let below : (x : ℕ) → x < length s.memory.initial → last_value s.memory x < p.domain =
@@ -151,36 +133,19 @@ after_step o p s k of all h at to =
           ∙ (ap (λ (w : List ℕ). meets_all w (note p (k + 1))) (sym (last_values-appended s.memory (store p k) inside)) ∙ then_met));
     }
 
--- the statement of a step is the store at the thread's point
-effect_of : (s next : State) (e : Event) (o : Option (ℕ × ℕ)) (st : ℕ × ℕ) → o ≡ Some st → IsSomeAnd o (λ t. Stores s e t next) → Stores s e st next
-effect_of s next e o st is h = subst (λ (q : Option (ℕ × ℕ)). IsSomeAnd q (λ t. Stores s e t next)) is h
-
 step : (o : Outline) (p : Path) (s : State) (e : Event) (next : State) → IsOf o p → AllFollow p → Holds o p s → IsStep o.program s e next → Holds o p next
 step o p s e next of all h is =
-    let one = one_thread o.program.threads p.stores of.stores in
-    let low = is.thread.0 in
-    let high = is.thread.1 in
-    let first : e.thread ≡ 1 = omega (arith, one, low, high) in
-    let k = point_of s 1 in
-    let ts = o.program.threads in
-    let stands : slice_get (get_or ts 0 []) (k - 1) ≡ Some is.stmt = subst (λ (t : ℕ). stmt_at o.program t (point_of s t) ≡ Some is.stmt) first is.stands in
-    let inside = get-inside (get_or ts 0 []) (k - 1) is.stmt stands in
-    let size = thread_stores ts p.stores of.stores in
-    let same : found (straight ts) ≡ p.stores = ap (λ (q : Option (List (ℕ × ℕ))). found q) of.stores in
-    let sizes = ap length same in
-    let stores : store_of is.stmt ≡ Some (store p k) =
-    store_found ts (k - 1) is.stmt (omega (arith, inside, size, sizes)) (sym stands) ∙ ap (λ (l : List (ℕ × ℕ)). Some (get_or l (k - 1) (0, 0))) same in
-    let effect = effect_of s next e (store_of is.stmt) (store p k) stores is.effect in
-    let becomes : next ≡ moved (stored s 1 (store p k)) 1 = effect.1 ∙ ap (λ (t : ℕ). moved (stored s t (store p k)) t) first in
+    let does = step_stores o.program p.stores s e next of.stores is in
+    let inside = does.inside in
     let from = h.from in
-    subst (λ (q : State). Holds o p q) (sym becomes) (after_step o p s k of all h refl (omega (arith, inside, size, from)))
+    subst (λ (q : State). Holds o p q) (sym does.becomes) (after_step o p s (point_of s 1) of all h refl (omega (arith, inside, from)))
 
 -- ---- executions
 
 is_safe_in : (o : Outline) (p : Path) (s : State) → IsOf o p → Holds o p s → IsSafeIn o s
 is_safe_in o p s of h = record {
   assertions = λ t low high.
-      let one = one_thread o.program.threads p.stores of.stores in
+      let one = (one_thread o.program.threads p.stores of.stores).0 in
       let first : t ≡ 1 = omega (arith, one, low, high) in
       subst (λ (n : ℕ). holds s (note_at o n (point_of s n)) ≡ true) (sym first)
       (subst (λ (notes : List (List (List PathLit))). holds s (get_or (get_or notes 0 []) (point_of s 1 - 1) []) ≡ true) (sym of.notes) h.holds);
@@ -197,3 +162,19 @@ runs o p of all s (e ∷ events) (next ∷ states) h steps =
 pub safe : (o : Outline) (p : Path) → IsOf o p → AllFollow p → IsSafe o
 safe o p of all = λ first events states execution.
     runs o p of all first events states (start o p first of all execution.start) execution.steps
+
+-- ---- the fresh state
+
+fresh_follows : (p : Path) → AllFollow p → meets_all p.initial p.pre ≡ true
+fresh_follows p all = all 1 (omega arith) (omega arith) p.initial refl refl
+
+pub starts : (o : Outline) (p : Path) → IsOf o p → IsProgram o.program → AllFollow p → IsStart o (fresh o.program)
+starts o p of built all =
+    let s = fresh o.program in
+    let values : last_values s.memory ≡ p.initial = last_values-fresh (initial o.program.names) ∙ of.initial in
+    record {
+      formed = fresh_is_well_formed o.program built;
+      first = All-constant (λ (k : ℕ). k ≡ 1) 1 o.program.threads refl;
+      pre = subst (λ (ls : List PathLit). holds s ls ≡ true) (sym of.pre)
+          (holds-meets s p.pre (pre_lits p s of.path of.initial) ∙ (ap (λ (w : List ℕ). meets_all w p.pre) values ∙ fresh_follows p all));
+    }

@@ -4,7 +4,8 @@ use Rattle.pg_judge.specs.declared.judgement.PathJudgement.{PathJudgement}
 use Rattle.pg_judge.specs.declared.judgement.PathJudgement.TheVariants.{Accepted, Rejected}
 use Rattle.pg_judge.specs.Path.{Path, count, AllFollow, IsFirstFailing}
 use Rattle.pg_program.specs.Program.{IsProgram}
-use Rattle.pg_judge.specs.Meaning.{Outline, IsSafe}
+use Rattle.pg_machine.specs.State.{fresh}
+use Rattle.pg_judge.specs.Meaning.{Outline, IsStart, IsSafe}
 
 -- accepted with the number of obligations, where each follows; rejected with the first that does not
 abbrev pub Judges : Path → PathJudgement → Type 0
@@ -16,7 +17,13 @@ abbrev pub number_of : PathJudgement → ℕ
 number_of (Accepted n) = n
 number_of (Rejected i) = i
 
--- where the judgement accepts an outline, its program is a well-formed one, and the outline is safe
-abbrev pub IsSafeIfAccepted : PathJudgement → Outline → Type 0
-IsSafeIfAccepted (Accepted n) o = IsProgram o.program × IsSafe o
-IsSafeIfAccepted (Rejected i) o = Unit {0}
+-- what acceptance claims of an outline: its program is well formed, its executions may begin in the fresh state,
+-- and it is safe
+pub record IsProved (o : Outline) : Type 0 where
+  pub built : IsProgram o.program
+  pub starts : IsStart o (fresh o.program)
+  pub safe : IsSafe o
+
+abbrev pub IsProvedIfAccepted : PathJudgement → Outline → Type 0
+IsProvedIfAccepted (Accepted n) o = IsProved o
+IsProvedIfAccepted (Rejected i) o = Unit {0}

@@ -4,7 +4,7 @@ ghost use Rattle.std.specs.Prelude.{◌≡◌, ℕ, ◌+◌, ◌*◌, ◌<◌, �
 ghost use Rattle.pg_program.specs.Straight.{initial};
 ghost use Rattle.pg_judge.specs.Path.{path, IsPath, count, Follows};
 ghost use Rattle.pg_judge.specs.Meaning.{outline};
-ghost use Rattle.pg_judge.specs.Judgement.{Judges, IsSafeIfAccepted, number_of};
+ghost use Rattle.pg_judge.specs.Judgement.{Judges, IsProvedIfAccepted, number_of};
 
 use crate::obligation::{PathKind, parts, path_kind};
 use crate::outline::PathOutline;
@@ -25,7 +25,7 @@ pub enum PathJudgement {
 pub fn check_path(alloc: Global, o: &PathOutline) -> Result<PathJudgement, AllocError>
     requires { IsPath (path o.now) }
     ensures judged { IfOk result (Judges (path o.now)) }
-    ensures safe { IfOk result (λ j. IsSafeIfAccepted j (outline o.now)) }
+    ensures safe { IfOk result (λ j. IsProvedIfAccepted j (outline o.now)) }
     ensures few { IfOk result (λ j. number_of j ≤ 65) }
 {
     let mut values = initial_values(alloc, o.program.names())?;

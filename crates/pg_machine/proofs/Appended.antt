@@ -1,14 +1,22 @@
 -- What an appended message changes of the last values: that of its location alone.
 use Rattle.std.proofs.Common.{◌≡◌, ℕ, zero, suc, ◌<◌, ◌≤◌, Bool, true, false, cond, ◌==◌, List, [], ◌∷◌, ◌++◌, length, slice_index_or, refl, ap, ◌∙◌, arith}
+use Rattle.std.proofs.lemmas.Bool.{eqb-false}
 use Rattle.pg_machine.specs.Memory.{Memory, is_to, value_at, last_upto, last, last_value}
 use Rattle.pg_machine.specs.Step.{message_appended}
 
-is_to-front : (ms : List (ℕ × ℕ)) (m : ℕ × ℕ) (y i : ℕ) → i < length ms → is_to (ms ++ m ∷ []) y i ≡ is_to ms y i
+pub same_number : (x : ℕ) → (x == x) ≡ true
+same_number x = by (x == x) refl
+  where
+    by : (b : Bool) → (x == x) ≡ b → (x == x) ≡ true
+    by true e = e
+    by false e = absurd (eqb-false x x e refl)
+
+pub is_to-front : (ms : List (ℕ × ℕ)) (m : ℕ × ℕ) (y i : ℕ) → i < length ms → is_to (ms ++ m ∷ []) y i ≡ is_to ms y i
 is_to-front [] m y i lt = absurd (omega arith)
 is_to-front (a ∷ ms) m y zero lt = refl
 is_to-front (a ∷ ms) m y (suc i) lt = is_to-front ms m y i (omega arith)
 
-is_to-new : (ms : List (ℕ × ℕ)) (m : ℕ × ℕ) (y : ℕ) → is_to (ms ++ m ∷ []) y (length ms) ≡ (m.0 == y)
+pub is_to-new : (ms : List (ℕ × ℕ)) (m : ℕ × ℕ) (y : ℕ) → is_to (ms ++ m ∷ []) y (length ms) ≡ (m.0 == y)
 is_to-new [] m y = refl
 is_to-new (a ∷ ms) m y = is_to-new ms m y
 

@@ -1,2 +1,5 @@
 pub mod OneStep
 pub mod Appended
+pub mod InDomain
+pub mod Steps
+pub mod WellFormed

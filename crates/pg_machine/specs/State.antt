@@ -2,7 +2,7 @@
 use Rattle.std.specs.Prelude.{◌≡◌, ℕ, ◌-◌, ◌+◌, ◌<◌, ◌≤◌, max, true, List, [], ◌∷◌, length, map, All, replicate, slice_index}
 use Rattle.pg_program.specs.NameTable.{NameTable}
 use Rattle.pg_program.specs.Straight.{initial}
-use Rattle.pg_program.specs.Program.{ProgramTable, thread_of}
+use Rattle.pg_program.specs.Program.{ProgramTable, IsProgram, thread_of}
 use Rattle.pg_machine.specs.Memory.{Memory, is_at}
 
 -- The views of a thread, which are positions: for each location its coherence view, the read view, the ready
@@ -79,3 +79,7 @@ fresh p = record {
   scalars = map (λ e. 0) p.names.scalars;
   points = map (λ t. 1) p.threads;
 }
+
+-- the fresh state of a well-formed program is well formed
+abbrev pub FreshIsWellFormed : Type 0
+FreshIsWellFormed = (p : ProgramTable) → IsProgram p → IsWellFormed p (fresh p)

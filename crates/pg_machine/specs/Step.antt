@@ -2,10 +2,10 @@
 use Rattle.std.specs.Prelude.{◌≡◌, ℕ, ◌-◌, ◌+◌, ◌≤◌, [], ◌∷◌, ◌++◌, length, Some, None, IsSomeAnd, slice_index_or, slice_set}
 use Rattle.pg_program.specs.declared.syntax.Stmt.{Stmt}
 use Rattle.pg_program.specs.Straight.{store_of}
-use Rattle.pg_program.specs.Program.{ProgramTable, stmt_at}
+use Rattle.pg_program.specs.Program.{ProgramTable, IsProgram, stmt_at}
 use Rattle.pg_machine.specs.declared.event.Event.{Event}
 use Rattle.pg_machine.specs.Memory.{Memory}
-use Rattle.pg_machine.specs.State.{Views, State, point_of}
+use Rattle.pg_machine.specs.State.{Views, State, IsWellFormed, point_of}
 
 -- the views of thread t
 abbrev pub views_of : State → ℕ → Views
@@ -47,3 +47,8 @@ pub record IsStep (p : ProgramTable) (s : State) (e : Event) (next : State) : Ty
 -- an event leads a state to one next state at most
 abbrev pub HasOneStep : Type 0
 HasOneStep = (p : ProgramTable) (s : State) (e : Event) (a b : State) → IsStep p s e a → IsStep p s e b → a ≡ b
+
+-- a step of a well-formed program keeps a state well formed
+abbrev pub StepKeepsWellFormed : Type 0
+StepKeepsWellFormed =
+    (p : ProgramTable) (s : State) (e : Event) (next : State) → IsProgram p → IsWellFormed p s → IsStep p s e next → IsWellFormed p next

@@ -1,8 +1,19 @@
 //! What holds of the machine, by its definitions. No function here does anything: its contract is the law.
 
-ghost use Rattle.pg_machine.specs.Step.{HasOneStep};
+ghost use Rattle.pg_machine.specs.State.{FreshIsWellFormed};
+ghost use Rattle.pg_machine.specs.Step.{HasOneStep, StepKeepsWellFormed};
 
 /// For a program, a state and an event there is at most one next state.
 pub fn an_event_has_one_next_state()
     ensures { HasOneStep }
+{}
+
+/// The fresh state of a well-formed program is well formed.
+pub fn the_fresh_state_is_well_formed()
+    ensures { FreshIsWellFormed }
+{}
+
+/// A step of a well-formed program keeps a state well formed.
+pub fn a_step_keeps_a_state_well_formed()
+    ensures { StepKeepsWellFormed }
 {}
