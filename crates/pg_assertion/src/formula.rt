@@ -1,0 +1,49 @@
+//! Formulas over atoms of any kind. `Boxed` is a `Box` that contracts see as what it holds.
+
+ghost use Rattle.std.specs.Prelude.{◌≡◌, IfOk};
+ghost use Rattle.pg_assertion.specs.Formula.{plain, neg, both, either, implies};
+
+use sqlite_items::Boxed;
+use std::alloc::{AllocError, Global};
+
+/// A formula. Contracts see it as the data of `specs/Formula.antt`, by `plain`.
+#[derive(Debug, Drop)]
+pub enum Formula<T> {
+    True,
+    False,
+    Atom(T),
+    Not(Boxed<Formula<T>>),
+    And(Boxed<Formula<T>>, Boxed<Formula<T>>),
+    Or(Boxed<Formula<T>>, Boxed<Formula<T>>),
+    Implies(Boxed<Formula<T>>, Boxed<Formula<T>>),
+}
+
+impl<T: Drop> Formula<T> {
+    /// `!f`.
+    pub fn not(alloc: Global, f: Formula<T>) -> Result<Formula<T>, AllocError>
+        ensures { IfOk result (λ h. plain h ≡ neg (plain f)) }
+    {
+        Ok(Formula::Not(Boxed::new(alloc, f)?))
+    }
+
+    /// `f & g`.
+    pub fn and(alloc: Global, f: Formula<T>, g: Formula<T>) -> Result<Formula<T>, AllocError>
+        ensures { IfOk result (λ h. plain h ≡ both (plain f) (plain g)) }
+    {
+        Ok(Formula::And(Boxed::new(alloc, f)?, Boxed::new(alloc, g)?))
+    }
+
+    /// `f | g`.
+    pub fn or(alloc: Global, f: Formula<T>, g: Formula<T>) -> Result<Formula<T>, AllocError>
+        ensures { IfOk result (λ h. plain h ≡ either (plain f) (plain g)) }
+    {
+        Ok(Formula::Or(Boxed::new(alloc, f)?, Boxed::new(alloc, g)?))
+    }
+
+    /// `f -> g`.
+    pub fn implies(alloc: Global, f: Formula<T>, g: Formula<T>) -> Result<Formula<T>, AllocError>
+        ensures { IfOk result (λ h. plain h ≡ implies (plain f) (plain g)) }
+    {
+        Ok(Formula::Implies(Boxed::new(alloc, f)?, Boxed::new(alloc, g)?))
+    }
+}

@@ -1,0 +1,12 @@
+//! Assertions: atoms, formulas and crash formulas, the expansion of a crash formula, and the numbers of atoms.
+//!
+//! What this crate promises the layers above: contracts see a formula as plain data; `expand` gives the expansion
+//! of a crash formula, or tells how many nodes it would have; a `Layout` numbers the atoms of a side from 1 without
+//! a gap, and finds the atom of each number.
+#![tactic(auto)]
+
+mod atom;
+mod formula;
+
+pub use atom::{CrashAtom, RawAtom, ViewAtom};
+pub use formula::Formula;
