@@ -7,6 +7,11 @@
 
 mod atom;
 mod formula;
+mod layout;
 
 pub use atom::{CrashAtom, RawAtom, ViewAtom};
 pub use formula::Formula;
+pub use layout::{
+    Layout, MAX_ATOMS, Numbering, Side, atoms_are_counted, atoms_stand_in_order,
+    numbers_have_no_gap, numbers_tell_atoms_apart, places_are_numbers,
+};

@@ -1,0 +1,4 @@
+pub mod LayoutNumbers
+pub mod LayoutPlaces
+pub mod LayoutLists
+pub mod LayoutOrder
