@@ -1,10 +1,12 @@
 -- Each kind of atoms in the list of all, and the laws of the numbering.
-use Rattle.std.proofs.Common.{◌≡◌, ℕ, ◌+◌, ◌-◌, ◌<◌, ◌≤◌, ◌⊎◌, inl, inr, List, ◌++◌, length, get_or, Some, None, subst, ap, ◌∙◌, sym, arith, length-append}
+use Rattle.std.proofs.Common.{◌≡◌, ℕ, ◌+◌, ◌-◌, ◌*◌, ◌<◌, ◌≤◌, ◌⊎◌, inl, inr, List, ◌++◌, length, get_or, Some, None, refl, subst, ap, ◌∙◌, sym, arith, length-append}
 use Rattle.std.proofs.lemmas.Option.{slice_get_within, slice_get_cases}
 use Rattle.std.specs.List.{slice_get}
 use Rattle.pg_assertion.specs.declared.atom.ViewAtom.{ViewAtom}
 use Rattle.pg_assertion.specs.declared.atom.ViewAtom.TheVariants.{Scalar, Last, Read, Persist, Async, Then, Newest, Ordered, Fenced}
-use Rattle.pg_assertion.specs.Layout.{Sizes, IsThread, IsAtom, scalar_atoms, last_atoms, read_atoms, persist_atoms, async_atoms, then_atoms, newest_atoms, ordered_atoms, fenced_atoms, atoms_in_order, scalar_cells, cells, seen_cells, cell_pairs, thread_locations, scalar_place, cell_place, seen_place, pair_place, view_place, last_start, read_start, persist_start, async_start, then_start, newest_start, ordered_start, fenced_start, atoms, place_of, number, AtomsStandInOrder, PlacesAreNumbers, AtomsAreCounted, NumbersTellAtomsApart, NumbersHaveNoGap}
+use Rattle.pg_assertion.specs.declared.layout.Side.{Side}
+use Rattle.pg_assertion.specs.declared.layout.Side.TheVariants.{Before, After}
+use Rattle.pg_assertion.specs.Layout.{Sizes, IsThread, IsAtom, scalar_atoms, last_atoms, read_atoms, persist_atoms, async_atoms, then_atoms, newest_atoms, ordered_atoms, fenced_atoms, atoms_in_order, scalar_cells, cells, seen_cells, cell_pairs, thread_locations, scalar_place, cell_place, seen_place, pair_place, view_place, last_start, read_start, persist_start, async_start, then_start, newest_start, ordered_start, fenced_start, atoms, place_of, number, AtomsStandInOrder, PlacesAreNumbers, AtomsAreCounted, NumbersTellAtomsApart, NumbersHaveNoGap, NumbersTellSidesApart, number_on}
 use Rattle.pg_assertion.proofs.LayoutPlaces.{stands_before, stands_behind, stands_in_one, grid, length-grid, stands_in_grid, InGrid, of_grid}
 use Rattle.pg_assertion.proofs.LayoutLists.{length-cell_list, length-seen_list, length-view_list, length-pair_list, stands_in_cells, stands_in_seen, stands_in_views, stands_in_pairs, IsCell, of_cells, IsSeen, of_seen, IsView, of_views, IsPair, of_pairs}
 
@@ -267,8 +269,8 @@ numbers_tell_atoms_apart l a b p q e =
     let place : place_of l a ≡ place_of l b = omega (arith, e) in
     same_option a b (sym (stands l a p) ∙ (ap (λ k. slice_get (atoms_in_order l) k) place ∙ stands l b q))
 
-within : (l : Sizes) (a : ViewAtom) → IsAtom l a → (1 ≤ number l a) × (number l a ≤ atoms l)
-within l a p =
+pub number_within : (l : Sizes) (a : ViewAtom) → IsAtom l a → (1 ≤ number l a) × (number l a ≤ atoms l)
+number_within l a p =
     let below : place_of l a < length (atoms_in_order l) = slice_get_within (atoms_in_order l) (place_of l a) a (stands l a p) in
     (omega arith, omega (arith, below, atoms_are_counted l))
 
@@ -281,4 +283,21 @@ has_atom l n from to = by (slice_get_cases (atoms_in_order l) (n - 1)).1
     by (inr r) = absurd (omega (arith, r.0, atoms_are_counted l, from, to))
 
 pub numbers_have_no_gap : NumbersHaveNoGap
-numbers_have_no_gap = (within, has_atom)
+numbers_have_no_gap = (number_within, has_atom)
+
+pub number_on_within : (l : Sizes) (a : ViewAtom) (s : Side) → IsAtom l a → (1 ≤ number_on l a s) × (number_on l a s ≤ 2 * atoms l)
+number_on_within l a Before p = let w = number_within l a p in (omega (arith, w.0), omega (arith, w.1))
+number_on_within l a After p = let w = number_within l a p in (omega (arith, w.0), omega (arith, w.1))
+
+-- a number before a step is too small for one after it
+sides_differ : (l : Sizes) (a b : ViewAtom) → IsAtom l a → IsAtom l b → number l a ≡ number l b + atoms l → ⊥
+sides_differ l a b p q e = omega (arith, (number_within l a p).1, (number_within l b q).0, e)
+
+tell_apart : (l : Sizes) (a b : ViewAtom) (s t : Side) → IsAtom l a → IsAtom l b → number_on l a s ≡ number_on l b t → (a ≡ b) × (s ≡ t)
+tell_apart l a b Before Before p q e = (numbers_tell_atoms_apart l a b p q e, refl)
+tell_apart l a b Before After p q e = absurd (sides_differ l a b p q e)
+tell_apart l a b After Before p q e = absurd (sides_differ l b a q p (sym e))
+tell_apart l a b After After p q e = (numbers_tell_atoms_apart l a b p q (omega (arith, e)), refl)
+
+pub numbers_tell_sides_apart : NumbersTellSidesApart
+numbers_tell_sides_apart = (number_on_within, tell_apart)

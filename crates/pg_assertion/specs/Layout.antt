@@ -200,3 +200,10 @@ abbrev pub NumbersHaveNoGap : Type 0
 NumbersHaveNoGap =
     ((l : Sizes) (a : ViewAtom) → IsAtom l a → (1 ≤ number l a) × (number l a ≤ atoms l))
     × ((l : Sizes) (n : ℕ) → 1 ≤ n → n ≤ atoms l → (a : ViewAtom) × IsAtom l a × (number l a ≡ n))
+
+-- An atom has a number on each side, from 1 to twice their count, and no other atom has it on any side.
+abbrev pub NumbersTellSidesApart : Type 0
+NumbersTellSidesApart =
+    ((l : Sizes) (a : ViewAtom) (s : Side) → IsAtom l a → (1 ≤ number_on l a s) × (number_on l a s ≤ 2 * atoms l))
+    × ((l : Sizes) (a b : ViewAtom) (s t : Side) → IsAtom l a → IsAtom l b → number_on l a s ≡ number_on l b t
+    → (a ≡ b) × (s ≡ t))

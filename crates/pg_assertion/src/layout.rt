@@ -5,7 +5,7 @@
 
 ghost use Rattle.std.specs.Prelude.{◌≡◌, ℕ, ◌+◌, ◌*◌, ◌<◌, ◌≤◌};
 ghost use Rattle.pg_assertion.specs.declared.layout.Side.{Side};
-ghost use Rattle.pg_assertion.specs.Layout.{IsWithinLimits, IsAtom, IsThread, number, number_on, place_of, atoms, AtomsStandInOrder, PlacesAreNumbers, AtomsAreCounted, NumbersTellAtomsApart, NumbersHaveNoGap};
+ghost use Rattle.pg_assertion.specs.Layout.{IsWithinLimits, IsAtom, IsThread, number, number_on, place_of, atoms, AtomsStandInOrder, PlacesAreNumbers, AtomsAreCounted, NumbersTellAtomsApart, NumbersHaveNoGap, NumbersTellSidesApart};
 
 use crate::atom::ViewAtom;
 use pg_program::Names;
@@ -413,4 +413,9 @@ pub fn numbers_tell_atoms_apart()
 /// Each atom has a number from 1 to their count, and each of these is the number of an atom.
 pub fn numbers_have_no_gap()
     ensures { NumbersHaveNoGap }
+{}
+
+/// The numbers of both sides go from 1 to twice the count of atoms, and each is of one atom on one side.
+pub fn numbers_tell_sides_apart()
+    ensures { NumbersTellSidesApart }
 {}

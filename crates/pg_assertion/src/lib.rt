@@ -8,10 +8,12 @@
 mod atom;
 mod formula;
 mod layout;
+#[cfg(test)]
+mod layout_tests;
 
 pub use atom::{CrashAtom, RawAtom, ViewAtom};
 pub use formula::Formula;
 pub use layout::{
     Layout, MAX_ATOMS, Numbering, Side, atoms_are_counted, atoms_stand_in_order,
-    numbers_have_no_gap, numbers_tell_atoms_apart, places_are_numbers,
+    numbers_have_no_gap, numbers_tell_atoms_apart, numbers_tell_sides_apart, places_are_numbers,
 };
