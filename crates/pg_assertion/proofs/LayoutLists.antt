@@ -1,8 +1,8 @@
 -- The lists of locations with a value, and what is made of them: their lengths, and what stands at which place.
-use Rattle.std.proofs.Common.{◌≡◌, ℕ, ◌+◌, ◌-◌, ◌*◌, ◌<◌, ◌≤◌, List, length, Some, ap, ◌∙◌, arith}
-use Rattle.std.specs.List.{slice_get, flat_map, range_with_len}
+use Rattle.std.proofs.Common.{◌≡◌, ℕ, ◌+◌, ◌-◌, ◌*◌, ◌<◌, List, length, Some, ap, ◌∙◌, arith}
+use Rattle.std.specs.List.{slice_get, flat_map}
 use Rattle.pg_assertion.specs.Layout.{Sizes, IsThread, values, locations, threads, cells, seen_cells, cell_pairs, thread_locations, cell_place, seen_place, pair_place, view_place}
-use Rattle.pg_assertion.proofs.LayoutPlaces.{length-rows, stands_in_rows, InRows, of_rows, grid, length-grid, stands_in_grid, InGrid, of_grid, nested_place}
+use Rattle.pg_assertion.proofs.LayoutPlaces.{length-rows, stands_in_rows, of_rows, grid, length-grid, stands_in_grid, of_grid, nested_place}
 
 -- Locations with a value, these for each thread, pairs of them, and locations for each thread; `g` is any kind.
 abbrev pub cell_list : {A : Type 0} → Sizes → (ℕ → ℕ → A) → List A

@@ -6,8 +6,8 @@ use Rattle.pg_assertion.specs.declared.atom.ViewAtom.{ViewAtom}
 use Rattle.pg_assertion.specs.declared.atom.ViewAtom.TheVariants.{Scalar, Last, Read, Persist, Async, Then, Newest, Ordered, Fenced}
 use Rattle.pg_assertion.specs.declared.layout.Side.{Side}
 use Rattle.pg_assertion.specs.declared.layout.Side.TheVariants.{Before, After}
-use Rattle.pg_assertion.specs.Layout.{Sizes, IsThread, IsAtom, scalar_atoms, last_atoms, read_atoms, persist_atoms, async_atoms, then_atoms, newest_atoms, ordered_atoms, fenced_atoms, atoms_in_order, scalar_cells, cells, seen_cells, cell_pairs, thread_locations, scalar_place, cell_place, seen_place, pair_place, view_place, last_start, read_start, persist_start, async_start, then_start, newest_start, ordered_start, fenced_start, atoms, place_of, number, AtomsStandInOrder, PlacesAreNumbers, AtomsAreCounted, NumbersTellAtomsApart, NumbersHaveNoGap, NumbersTellSidesApart, number_on}
-use Rattle.pg_assertion.proofs.LayoutPlaces.{stands_before, stands_behind, stands_in_one, grid, length-grid, stands_in_grid, InGrid, of_grid}
+use Rattle.pg_assertion.specs.Layout.{Sizes, IsAtom, scalar_atoms, last_atoms, read_atoms, persist_atoms, async_atoms, then_atoms, newest_atoms, ordered_atoms, fenced_atoms, atoms_in_order, cells, seen_cells, cell_pairs, thread_locations, scalar_place, cell_place, seen_place, pair_place, view_place, last_start, read_start, persist_start, async_start, then_start, newest_start, ordered_start, fenced_start, atoms, place_of, number, AtomsStandInOrder, PlacesAreNumbers, AtomsAreCounted, NumbersTellAtomsApart, NumbersHaveNoGap, NumbersTellSidesApart, number_on}
+use Rattle.pg_assertion.proofs.LayoutPlaces.{stands_before, stands_behind, stands_in_one, length-grid, stands_in_grid, InGrid, of_grid}
 use Rattle.pg_assertion.proofs.LayoutLists.{length-cell_list, length-seen_list, length-view_list, length-pair_list, stands_in_cells, stands_in_seen, stands_in_views, stands_in_pairs, IsCell, of_cells, IsSeen, of_seen, IsView, of_views, IsPair, of_pairs}
 
 -- An atom has its place there.

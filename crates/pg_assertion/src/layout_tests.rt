@@ -1,6 +1,8 @@
 //! The numbers of a small layout, worked out by hand: 1 scalar, 2 locations, 2 values and 2 threads. There are
 //! 2 + 4 + 8 + 4 + 8 + 32 + 4 + 4 + 4 atoms.
 
+ghost use Rattle.std.specs.Prelude.{◌≡◌};
+
 use crate::atom::ViewAtom;
 use crate::layout::{Layout, Numbering, Side};
 use pg_program::{NameKind, Names};
@@ -101,6 +103,14 @@ const NUMBERS: [(u32, ViewAtom); 28] = [
     (70, ViewAtom::Fenced { t: 2, x: 1 }),
 ];
 
+/// The number of an atom under any numbering.
+fn number_under<T, N: Numbering<T>>(numbers: &N, a: &T, side: Side) -> u32
+    requires { N.has numbers.now a.now }
+    ensures { result ≡ N.number_on numbers.now a.now side }
+{
+    numbers.number_at(a, side)
+}
+
 #[test]
 fn numbers_atoms(rt: HostRuntime) -> Result<(), Fail> {
     let mut names = Names::make(rt.alloc(), 2);
@@ -115,8 +125,8 @@ fn numbers_atoms(rt: HostRuntime) -> Result<(), Fail> {
         let found = layout.atom(n);
         assert_eq!(rt; found, expected);
         assert_eq!(rt; layout.number(&found), n);
-        assert_eq!(rt; layout.number_at(&found, Side::Before), n);
-        assert_eq!(rt; layout.number_at(&found, Side::After), n + 70);
+        assert_eq!(rt; number_under(&layout, &found, Side::Before), n);
+        assert_eq!(rt; number_under(&layout, &found, Side::After), n + 70);
     }
     Ok(())
 }
