@@ -111,6 +111,23 @@ fn number_under<T, N: Numbering<T>>(numbers: &N, a: &T, side: Side) -> u32
     numbers.number_at(a, side)
 }
 
+/// Whether this is the atom with this number, and has it on both sides.
+fn is_numbered(layout: &Layout, n: u32, a: ViewAtom) -> bool {
+    if n < 1 || layout.atoms() < n {
+        return false;
+    }
+    let found = layout.atom(n);
+    found == a
+        && layout.number(&found) == n
+        && number_under(layout, &found, Side::Before) == n
+        && number_under(layout, &found, Side::After) == n + layout.atoms()
+}
+
+/// Whether each of these is so.
+fn are_numbered(layout: &Layout, numbers: &[(u32, ViewAtom)]) -> bool {
+    numbers.iter().all(|(n, a)| is_numbered(layout, *n, *a))
+}
+
 #[test]
 fn numbers_atoms(rt: HostRuntime) -> Result<(), Fail> {
     let mut names = Names::make(rt.alloc(), 2);
@@ -120,13 +137,6 @@ fn numbers_atoms(rt: HostRuntime) -> Result<(), Fail> {
     assert_eq!(rt; names.domain(), 2);
     let layout = Layout::of(&names, 2);
     assert_eq!(rt; layout.atoms(), 70);
-    for (n, expected) in NUMBERS {
-        assert!(rt; 1 <= n && n <= layout.atoms());
-        let found = layout.atom(n);
-        assert_eq!(rt; found, expected);
-        assert_eq!(rt; layout.number(&found), n);
-        assert_eq!(rt; number_under(&layout, &found, Side::Before), n);
-        assert_eq!(rt; number_under(&layout, &found, Side::After), n + 70);
-    }
+    assert!(rt; are_numbered(&layout, &NUMBERS));
     Ok(())
 }
