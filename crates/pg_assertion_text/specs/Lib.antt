@@ -1,0 +1,9 @@
+pub mod Words
+pub mod Input
+pub mod Reading
+pub mod Grammar
+pub mod Atoms
+pub mod Laws
+pub mod Below
+pub mod AtomLaws
+pub mod Spelling

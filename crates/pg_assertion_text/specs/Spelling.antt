@@ -1,0 +1,159 @@
+-- The canonical spelling of formulas: one blank on each side of a sign, none behind `!`, and brackets just where the
+-- formula would be read otherwise.
+use Rattle.std.specs.Prelude.{◌≡◌, ℕ, ◌+◌, ◌<◌, ◌≤◌, max, Bool, true, false, if◌then◌else◌, nat_lt, List, [], ◌∷◌, ◌++◌, length, codes, decimal, All, Some, option_map, unwrap_or, slice_get}
+use Rattle.pg_lex.specs.Piece.{is_lower, is_word}
+use Rattle.pg_lex.specs.Grammar.{AllIn, Begins, Stops}
+use Rattle.pg_program.specs.NameTable.{NameTable}
+use Rattle.pg_assertion.specs.declared.atom.ViewAtom.{ViewAtom}
+use Rattle.pg_assertion.specs.declared.atom.ViewAtom.TheVariants as view
+use Rattle.pg_assertion.specs.declared.atom.RawAtom.{RawAtom}
+use Rattle.pg_assertion.specs.declared.atom.RawAtom.TheVariants as raw
+use Rattle.pg_assertion.specs.declared.atom.CrashAtom.{CrashAtom}
+use Rattle.pg_assertion.specs.declared.atom.CrashAtom.TheVariants as crash
+use Rattle.pg_assertion.specs.Formula.{Plain, top, bottom, atom, neg, both, either, implies}
+use Rattle.pg_assertion_text.specs.Words.{is_reserved}
+use Rattle.pg_assertion_text.specs.Grammar.{Rule, unary, conj, disj, formula}
+
+-- ---- names
+
+abbrev pub name_in : {V : Type 0} → List (List ℕ × V) → ℕ → List ℕ
+name_in entries i = unwrap_or (option_map (λ e. e.0) (slice_get entries i)) []
+
+abbrev pub location_name : NameTable → ℕ → List ℕ
+location_name names x = name_in names.locations x
+
+abbrev pub scalar_name : NameTable → ℕ → List ℕ
+scalar_name names r = name_in names.scalars r
+
+-- ---- atoms
+
+-- `name = k`
+abbrev pub equation : List ℕ → ℕ → List ℕ
+equation name k = name ++ (codes " = " ++ decimal k)
+
+-- `x,v` and `t,x`, without blanks
+abbrev pub cell : NameTable → ℕ → ℕ → List ℕ
+cell names x v = location_name names x ++ (codes "," ++ decimal v)
+
+abbrev pub place : NameTable → ℕ → ℕ → List ℕ
+place names t x = decimal t ++ (codes "," ++ location_name names x)
+
+abbrev pub spell_atom : NameTable → ViewAtom → List ℕ
+spell_atom names (view.Scalar r k) = equation (scalar_name names r) k
+spell_atom names (view.Last x v) = codes "L(" ++ (cell names x v ++ codes ")")
+spell_atom names (view.Read t x v) = codes "R(" ++ (decimal t ++ (codes "," ++ (cell names x v ++ codes ")")))
+spell_atom names (view.Persist x v) = codes "P(" ++ (cell names x v ++ codes ")")
+spell_atom names (view.Async t x v) = codes "A(" ++ (decimal t ++ (codes "," ++ (cell names x v ++ codes ")")))
+spell_atom names (view.Then t x v y w) = codes "C(" ++ (decimal t ++ (codes "," ++ (cell names x v ++ (codes "," ++ (cell names y w ++ codes ")")))))
+spell_atom names (view.Newest t x) = codes "N(" ++ (place names t x ++ codes ")")
+spell_atom names (view.Ordered t x) = codes "O(" ++ (place names t x ++ codes ")")
+spell_atom names (view.Fenced t x) = codes "F(" ++ (place names t x ++ codes ")")
+
+abbrev pub spell_crash : NameTable → CrashAtom → List ℕ
+spell_crash names (crash.Scalar r k) = equation (scalar_name names r) k
+spell_crash names (crash.Location x v) = equation (location_name names x) v
+
+-- ---- formulas
+
+-- the rule that a formula without a bracket round it is a phrase of
+abbrev pub rule_of : {T : Type 0} → Plain T → Rule
+rule_of top = unary
+rule_of bottom = unary
+rule_of (atom a) = unary
+rule_of (neg f) = unary
+rule_of (both f g) = conj
+rule_of (either f g) = disj
+rule_of (implies f g) = formula
+
+abbrev pub looseness : Rule → ℕ
+looseness unary = 0
+looseness conj = 1
+looseness disj = 2
+looseness formula = 3
+
+-- a phrase of the rule needs a bracket to have this formula as a part
+abbrev pub is_loose : {T : Type 0} → Rule → Plain T → Bool
+is_loose rule f = nat_lt (looseness rule) (looseness (rule_of f))
+
+abbrev pub in_brackets : Bool → List ℕ → List ℕ
+in_brackets true text = codes "(" ++ (text ++ codes ")")
+in_brackets false text = text
+
+unfoldable pub spell : {T : Type 0} → (T → List ℕ) → Plain T → List ℕ
+spell of_atom top = codes "true"
+spell of_atom bottom = codes "false"
+spell of_atom (atom a) = of_atom a
+spell of_atom (neg f) = codes "!" ++ in_brackets (is_loose unary f) (spell of_atom f)
+spell of_atom (both f g) = in_brackets (is_loose conj f) (spell of_atom f) ++ (codes " & " ++ in_brackets (is_loose unary g) (spell of_atom g))
+spell of_atom (either f g) = in_brackets (is_loose disj f) (spell of_atom f) ++ (codes " | " ++ in_brackets (is_loose conj g) (spell of_atom g))
+spell of_atom (implies f g) = in_brackets (is_loose disj f) (spell of_atom f) ++ (codes " -> " ++ spell of_atom g)
+
+-- ---- what can be read again
+
+-- how many brackets and `!` are open at once in the spelling
+abbrev pub bracket : Bool → ℕ
+bracket true = 1
+bracket false = 0
+
+unfoldable pub opens : {T : Type 0} → Plain T → ℕ
+opens top = 0
+opens bottom = 0
+opens (atom a) = 0
+opens (neg f) = 1 + (bracket (is_loose unary f) + opens f)
+opens (both f g) = max (bracket (is_loose conj f) + opens f) (bracket (is_loose unary g) + opens g)
+opens (either f g) = max (bracket (is_loose disj f) + opens f) (bracket (is_loose conj g) + opens g)
+opens (implies f g) = max (bracket (is_loose disj f) + opens f) (opens g)
+
+-- a word that may be a name
+pub record IsName (w : List ℕ) : Type 0 where
+  pub begins : Begins is_lower w
+  pub word : AllIn is_word w
+  pub short : length w ≤ 32
+  pub free : is_reserved w ≡ false
+
+-- the names of a table are names of the grammar
+pub record AreNames (t : NameTable) : Type 0 where
+  pub locations : All (λ e. IsName e.0) t.locations
+  pub scalars : All (λ e. IsName e.0) t.scalars
+
+-- a text may follow a word or a number
+abbrev pub Ends : List ℕ → Type 0
+Ends more = Stops is_word more
+
+-- the atom as a text has it
+abbrev pub raw_of : ViewAtom → RawAtom
+raw_of (view.Scalar r k) = raw.Scalar r k
+raw_of (view.Last x v) = raw.Last x v
+raw_of (view.Read t x v) = raw.Read t x v
+raw_of (view.Persist x v) = raw.Persist x v
+raw_of (view.Async t x v) = raw.Async t x v
+raw_of (view.Then t x v y w) = raw.Then t x v y w
+raw_of (view.Newest t x) = raw.Newest t x
+raw_of (view.Ordered t x) = raw.Ordered t x
+raw_of (view.Fenced t x) = raw.Fenced t x
+
+-- the names of an atom are declared
+abbrev pub NamesDeclared : NameTable → ViewAtom → Type 0
+NamesDeclared names (view.Scalar r k) = r < length names.scalars
+NamesDeclared names (view.Last x v) = x < length names.locations
+NamesDeclared names (view.Read t x v) = x < length names.locations
+NamesDeclared names (view.Persist x v) = x < length names.locations
+NamesDeclared names (view.Async t x v) = x < length names.locations
+NamesDeclared names (view.Then t x v y w) = (x < length names.locations) × (y < length names.locations)
+NamesDeclared names (view.Newest t x) = x < length names.locations
+NamesDeclared names (view.Ordered t x) = x < length names.locations
+NamesDeclared names (view.Fenced t x) = x < length names.locations
+
+abbrev pub CrashDeclared : NameTable → CrashAtom → Type 0
+CrashDeclared names (crash.Scalar r k) = r < length names.scalars
+CrashDeclared names (crash.Location x v) = x < length names.locations
+
+-- each atom of a formula is as the claim says
+unfoldable pub EachAtom : {T : Type 0} → (T → Type 0) → Plain T → Type 0
+EachAtom Claim top = Unit {0}
+EachAtom Claim bottom = Unit {0}
+EachAtom Claim (atom a) = Claim a
+EachAtom Claim (neg f) = EachAtom Claim f
+EachAtom Claim (both f g) = EachAtom Claim f × EachAtom Claim g
+EachAtom Claim (either f g) = EachAtom Claim f × EachAtom Claim g
+EachAtom Claim (implies f g) = EachAtom Claim f × EachAtom Claim g
