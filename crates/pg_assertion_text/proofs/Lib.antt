@@ -1,3 +1,8 @@
 mod Texts
 mod Chains
 mod Levels
+mod Begins
+mod Sound
+mod Stopped
+mod Complete
+mod Whole

@@ -17,7 +17,12 @@ ReadsAtoms {T} read stands =
     (names : NameTable) (i : Input) (a : T) (to : Cursor) → stands names i.cursor a to → 0 < i.room
     → read names i ≡ Ok (a, record { cursor = to; room = i.room - 1 })
 
+-- the token at a place begins an atom, and nothing else
+pub record BeginsAtom (c : Cursor) : Type 0 where
+  pub lexeme : Lexeme
+  pub read : token c ≡ Ok lexeme
+  pub begins : start lexeme ≡ Atom
+
 -- an atom begins as no other operand does
 abbrev pub BeginsAtoms : {T : Type 0} → (NameTable → Cursor → T → Cursor → Type 0) → Type 0
-BeginsAtoms {T} stands =
-    (names : NameTable) (from to : Cursor) (a : T) (t : Lexeme) → stands names from a to → token from ≡ Ok t → start t ≡ Atom
+BeginsAtoms {T} stands = (names : NameTable) (from to : Cursor) (a : T) → stands names from a to → BeginsAtom from

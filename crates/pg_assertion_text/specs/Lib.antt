@@ -3,7 +3,10 @@ pub mod Input
 pub mod Reading
 pub mod Grammar
 pub mod Atoms
+pub mod Follows
+pub mod Parsing
 pub mod Laws
 pub mod Below
+pub mod Steps
 pub mod AtomLaws
 pub mod Spelling

@@ -3,7 +3,10 @@
 
 mod atoms;
 mod formula;
+pub mod laws;
+mod parse;
 pub mod tokens;
 
 pub use atoms::ReadAtom;
+pub use parse::{MAX_NODES, MAX_OPEN, parse_crash, parse_formula};
 pub use tokens::Tokens;
