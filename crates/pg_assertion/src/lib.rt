@@ -6,6 +6,7 @@
 #![tactic(auto)]
 
 mod atom;
+mod expansion;
 mod formula;
 
 pub use atom::{CrashAtom, RawAtom, ViewAtom};
