@@ -1,6 +1,6 @@
 -- Conjunctions that are made conjunct by conjunct, and the terms of the choices that are made value by value.
 use Rattle.std.proofs.Common.{◌≡◌, ◌∙◌, sym, ap, refl, ℕ, zero, suc, ◌+◌, ◌-◌, ◌<◌, Bool, cond, List, [], ◌∷◌, ◌++◌, map, take, length, append_assoc, zero-add, add-one, arith}
-use Rattle.std.specs.Prelude.{Option, Some, None, option_map}
+use Rattle.std.specs.Prelude.{Option, Some, None}
 use Rattle.std.specs.List.{filter, fold, flat_map, range_with_len}
 use Rattle.std.proofs.lemmas.List.{map-append, append-nil, take_at, length-append}
 use Rattle.std.proofs.lemmas.List.Concat.{flat_map-append}
@@ -62,17 +62,17 @@ terms_below-more d n x xs c f =
     let say : List (ℕ × ℕ) → Plain ViewAtom = λ w. term f (c ++ w) in
     let below : List (List (ℕ × ℕ)) = flat_map put (range_with_len 0 n) in
     let split : flat_map put (range_with_len 0 (n + 1)) ≡ below ++ put n =
-        ap (flat_map put) (range_more n) ∙ flat_map-append put (range_with_len 0 n) (n ∷ []) ∙ ap (λ (l : List (List (ℕ × ℕ))). below ++ l) (append-nil (put n)) in
+    ap (flat_map put) (range_more n) ∙ flat_map-append put (range_with_len 0 n) (n ∷ []) ∙ ap (λ (l : List (List (ℕ × ℕ))). below ++ l) (append-nil (put n)) in
     ap (map say) split ∙ map-append say below (put n) ∙ ap (λ (l : List (Plain ViewAtom)). map say below ++ l) (terms_chosen x n (vectors d xs) c f)
 
 -- the terms of one more value n are joined, behind the choice c with that value
 pub joined_all-more :
-  (d n x : ℕ) (xs : List ℕ) (c c' l : List (ℕ × ℕ)) (f : Plain CrashAtom) (b w w' : Option (Plain ViewAtom))
-  → l ≡ c
-  → c' ≡ l ++ (x, n) ∷ []
-  → w ≡ joined_all b (terms_below d n x xs c f)
-  → w' ≡ joined_all w (terms d xs c' f)
-  → w' ≡ joined_all b (terms_below d (n + 1) x xs c f)
+    (d n x : ℕ) (xs : List ℕ) (c c' l : List (ℕ × ℕ)) (f : Plain CrashAtom) (b w w' : Option (Plain ViewAtom))
+    → l ≡ c
+    → c' ≡ l ++ (x, n) ∷ []
+    → w ≡ joined_all b (terms_below d n x xs c f)
+    → w' ≡ joined_all w (terms d xs c' f)
+    → w' ≡ joined_all b (terms_below d (n + 1) x xs c f)
 joined_all-more d n x xs c c' l f b w w' same pushed was is =
     let chosen : c' ≡ c ++ (x, n) ∷ [] = pushed ∙ ap (λ (k : List (ℕ × ℕ)). k ++ (x, n) ∷ []) same in
     is ∙ ap (λ (k : List (ℕ × ℕ)). joined_all w (terms d xs k f)) chosen
@@ -93,12 +93,12 @@ whole d [] f some = absurd (omega arith)
 whole d (x ∷ xs) f some = joined_all_none (map (term f) (vectors d (x ∷ xs)))
 
 pub expansion_over-joined :
-  (d : ℕ) (xs l : List ℕ) (c : List (ℕ × ℕ)) (f : Plain CrashAtom) (w : Option (Plain ViewAtom))
-  → l ≡ xs
-  → 0 < length l
-  → c ≡ []
-  → w ≡ joined_all None (terms d l c f)
-  → or_true w ≡ expansion_over d xs f
+    (d : ℕ) (xs l : List ℕ) (c : List (ℕ × ℕ)) (f : Plain CrashAtom) (w : Option (Plain ViewAtom))
+    → l ≡ xs
+    → 0 < length l
+    → c ≡ []
+    → w ≡ joined_all None (terms d l c f)
+    → or_true w ≡ expansion_over d xs f
 expansion_over-joined d xs l c f w same some none is =
     let long : 0 < length xs = omega (arith, ap length same) in
     ap or_true (is ∙ ap (λ (k : List (ℕ × ℕ)). joined_all None (terms d l k f)) none ∙ ap (λ (k : List ℕ). joined_all None (terms d k [] f)) same)

@@ -1,1 +1,2 @@
+pub mod ExpansionSizes
 pub mod ExpansionTerms

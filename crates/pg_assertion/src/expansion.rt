@@ -1,14 +1,81 @@
 //! The expansion of a crash formula into a formula about one state of the machine, after this project's own
 //! definition in `specs/Expansion.antt`.
-ghost use Rattle.std.specs.List.{fold};
 
-ghost use Rattle.std.specs.Prelude.{◌≡◌, ℕ, ◌<◌, ◌≤◌, length, map, option_map, None, IfOk, OnOk};
+ghost use Rattle.std.specs.Prelude.{◌≡◌, ℕ, ◌<◌, ◌≤◌, ◌↔◌, IsErrOf, length, map, option_map, None, IfOk, OnOk};
+ghost use Rattle.pg_assertion.specs.declared.expansion.TheConstants.{MAX_EXPANSION_NODES};
 ghost use Rattle.pg_assertion.specs.Formula.{plain, nodes};
-ghost use Rattle.pg_assertion.specs.Expansion.{mentions, named, value_in, fill, constant, AllAtoms, HasValueBelow, conjunction, can_persist, term, terms, joined, joined_all, or_true, expansion_over};
+ghost use Rattle.pg_assertion.specs.Expansion.{mentions, named, value_in, fill, constant, AllAtoms, HasValueBelow, conjunction, can_persist, term, terms, joined, joined_all, or_true, expansion_over, expansion, expansion_size, ExpansionsHaveTheirSize, IsAtomOf};
 
 use crate::atom::{CrashAtom, ViewAtom};
 use crate::formula::Formula;
+use pg_program::Names;
 use std::alloc::{AllocError, Global};
+use thiserror::Error;
+
+/// The most nodes that an expansion may have.
+pub const MAX_EXPANSION_NODES: u64 = 8192;
+
+/// Why a crash formula was not expanded.
+#[derive(Clone, Copy, Debug, PartialEq, Eq, Error)]
+pub enum ExpandFault {
+    #[error("the expansion has {0} nodes")]
+    TooLarge(u64),
+    #[error("out of memory")]
+    NoMemory,
+}
+
+/// The expansion of a crash formula: a conjunction over all choices of values of the locations that it names, the
+/// first location slowest, grouped to the left. For each choice there is a term: if a crash may leave each of these
+/// values in its location, the formula holds with these values put in. A formula that names no location stays as
+/// it is.
+///
+/// `TooLarge` has the number of nodes that the expansion would have; no memory is taken then.
+pub fn expand(
+    alloc: Global,
+    f: &Formula<CrashAtom>,
+    names: &Names,
+) -> Result<Formula<ViewAtom>, ExpandFault>
+    requires domain { (2 ≤ names.now.domain) × (names.now.domain ≤ 6) }
+    requires few_nodes { nodes (plain f.now) ≤ 512 }
+    requires atoms { AllAtoms (IsAtomOf names.now) (plain f.now) }
+    requires few_locations { length (named (length names.now.locations) (plain f.now)) ≤ 3 }
+    ensures expanded { IfOk result (λ g. plain g ≡ expansion names.now (plain f.now)) }
+    ensures small { IfOk result (λ g. nodes (plain g) ≤ MAX_EXPANSION_NODES) }
+    ensures too_large { (n : ℕ) → IsErrOf result (ExpandFault.TooLarge n) ↔ ((n ≡ nodes (expansion names.now (plain f.now))) × (MAX_EXPANSION_NODES < n)) }
+{
+    let domain = names.domain() as u8;
+    let locations = names.locations();
+    let size = expansion_size(f, domain, locations);
+    if size > MAX_EXPANSION_NODES {
+        return Err(ExpandFault::TooLarge(size));
+    }
+    match expanded(alloc, f, domain, locations) {
+        Ok(g) => Ok(g),
+        Err(_) => Err(ExpandFault::NoMemory),
+    }
+}
+
+/// An expansion over D values of a formula of n nodes that names k locations, one at least, has
+/// `D^k * (n + 2k) + D^k - 1` nodes; if it names none, it has n.
+pub fn expansions_have_their_size()
+    ensures { ExpansionsHaveTheirSize }
+{}
+
+/// The number of nodes of the expansion, which is not built.
+fn expansion_size(f: &Formula<CrashAtom>, domain: u8, locations: u8) -> u64
+    requires domain { (1 ≤ domain) × (domain ≤ 6) }
+    requires few_nodes { nodes (plain f.now) ≤ 512 }
+    requires few_locations { length (named locations (plain f.now)) ≤ 3 }
+    ensures { result ≡ expansion_size domain (length (named locations (plain f.now))) (nodes (plain f.now)) }
+{
+    let nodes = f.nodes();
+    let named = named_count(f, locations) as u32;
+    if named == 0 {
+        return nodes;
+    }
+    let terms = u64::from(domain).pow(named);
+    terms * (nodes + 2 * u64::from(named)) + terms - 1
+}
 
 /// Whether the formula names the location.
 fn mentions(f: &Formula<CrashAtom>, x: u8) -> bool
@@ -51,30 +118,45 @@ fn value_in(vector: &[(u8, u8)], x: u8) -> u8
 {
     match vector {
         [] => 0,
-        [(y, v), rest @ ..] => {
-            if *y == x {
-                *v
-            } else {
-                value_in(rest, x)
-            }
-        }
+        [(y, v), rest @ ..] => { if *y == x { *v } else { value_in(rest, x) } }
     }
 }
 
 /// The formula with the chosen values put in.
-fn filled(alloc: Global, f: &Formula<CrashAtom>, vector: &[(u8, u8)]) -> Result<Formula<ViewAtom>, AllocError>
+fn filled(
+    alloc: Global,
+    f: &Formula<CrashAtom>,
+    vector: &[(u8, u8)],
+) -> Result<Formula<ViewAtom>, AllocError>
     requires { AllAtoms (HasValueBelow 256) (plain f.now) }
     ensures { IfOk result (λ g. plain g ≡ fill vector.now (plain f.now)) }
 {
     match f {
         Formula::True => Ok(Formula::True),
         Formula::False => Ok(Formula::False),
-        Formula::Atom(CrashAtom::Scalar { r, k }) => Ok(Formula::Atom(ViewAtom::Scalar { r: *r, k: *k as u8 })),
-        Formula::Atom(CrashAtom::Location { x, v }) => Ok(constant(u32::from(value_in(vector, *x)) == *v)),
+        Formula::Atom(CrashAtom::Scalar { r, k }) => Ok(Formula::Atom(ViewAtom::Scalar {
+            r: *r,
+            k: *k as u8,
+        })),
+        Formula::Atom(CrashAtom::Location { x, v }) => Ok(constant(
+            u32::from(value_in(vector, *x)) == *v,
+        )),
         Formula::Not(f) => Formula::not(alloc, filled(alloc, f.get(), vector)?),
-        Formula::And(f, g) => Formula::and(alloc, filled(alloc, f.get(), vector)?, filled(alloc, g.get(), vector)?),
-        Formula::Or(f, g) => Formula::or(alloc, filled(alloc, f.get(), vector)?, filled(alloc, g.get(), vector)?),
-        Formula::Implies(f, g) => Formula::implies(alloc, filled(alloc, f.get(), vector)?, filled(alloc, g.get(), vector)?),
+        Formula::And(f, g) => Formula::and(
+            alloc,
+            filled(alloc, f.get(), vector)?,
+            filled(alloc, g.get(), vector)?,
+        ),
+        Formula::Or(f, g) => Formula::or(
+            alloc,
+            filled(alloc, f.get(), vector)?,
+            filled(alloc, g.get(), vector)?,
+        ),
+        Formula::Implies(f, g) => Formula::implies(
+            alloc,
+            filled(alloc, f.get(), vector)?,
+            filled(alloc, g.get(), vector)?,
+        ),
     }
 }
 

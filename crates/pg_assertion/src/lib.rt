@@ -10,4 +10,5 @@ mod expansion;
 mod formula;
 
 pub use atom::{CrashAtom, RawAtom, ViewAtom};
+pub use expansion::{ExpandFault, MAX_EXPANSION_NODES, expand, expansions_have_their_size};
 pub use formula::Formula;
