@@ -7,6 +7,8 @@
 
 mod atom;
 mod expansion;
+#[cfg(test)]
+mod expansion_tests;
 mod formula;
 
 pub use atom::{CrashAtom, RawAtom, ViewAtom};
