@@ -46,7 +46,8 @@ pub fn expand(
     let domain = names.domain() as u8;
     let locations = names.locations();
     let size = expansion_size(f, domain, locations);
-    if size > MAX_EXPANSION_NODES {
+    let is_too_large = size > MAX_EXPANSION_NODES;
+    if is_too_large {
         return Err(ExpandFault::TooLarge(size));
     }
     match expanded(alloc, f, domain, locations) {

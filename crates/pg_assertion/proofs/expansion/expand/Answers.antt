@@ -5,8 +5,8 @@ use Rattle.pg_assertion.specs.Expansion.{named, expansion}
 use Rattle.pg_assertion.proofs.ExpansionSizes.{size_found, size_built, values_fit}
 use Rattle.pg_assertion.proofs.expansion.expand.Goals as goal
 
-pub returns-then-size-gt-MAX_EXPANSION_NODES-clause-too_large : goal.returns-then-size-gt-MAX_EXPANSION_NODES-clause-too_large
-returns-then-size-gt-MAX_EXPANSION_NODES-clause-too_large c =
+pub returns-then-is_too_large-clause-too_large : goal.returns-then-is_too_large-clause-too_large
+returns-then-is_too_large-clause-too_large c =
     let t = c.args.names.now in
     let f = plain c.args.f.now in
     let s = c.expansion_size-size.result in
