@@ -1,2 +1,3 @@
+pub mod ExpansionChoices
 pub mod ExpansionSizes
 pub mod ExpansionTerms

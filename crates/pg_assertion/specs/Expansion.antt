@@ -1,7 +1,7 @@
 -- The expansion of a crash formula: what the formula says of each memory that a crash may leave, said of one state
 -- of the machine. For each choice of values of the locations that it names there is a term: if a crash may leave
 -- each of these values in its location, the formula holds with these values put in.
-use Rattle.std.specs.Prelude.{◌≡◌, ℕ, zero, suc, ◌+◌, ◌-◌, ◌*◌, ◌^◌, ◌<◌, ◌≤◌, ◌==◌, Bool, true, false, ◌||◌, if◌then◌else◌, List, [], ◌∷◌, ◌++◌, length, map, Option, Some, None}
+use Rattle.std.specs.Prelude.{◌≡◌, ℕ, zero, suc, ◌+◌, ◌-◌, ◌*◌, ◌^◌, ◌<◌, ◌≤◌, ◌==◌, Bool, true, false, ◌||◌, if◌then◌else◌, ◌↔◌, List, [], ◌∷◌, ◌++◌, length, map, All, Contains, Option, Some, None}
 use Rattle.std.specs.List.{filter, flat_map, fold, range_with_len}
 use Rattle.pg_program.specs.NameTable.{NameTable}
 use Rattle.pg_assertion.specs.declared.atom.ViewAtom.{ViewAtom}
@@ -29,10 +29,20 @@ named locations f = filter (λ x. mentions x f) (range_with_len 0 locations)
 
 -- ---- values put in
 
--- all choices of a value below d for each location of a list, as lists of pairs; the first location is the slowest
+-- all choices of a value below d for each location of a list, as lists of pairs; the first location is the slowest:
+-- of x and y over two values, x = 0 and y = 0, x = 0 and y = 1, x = 1 and y = 0, x = 1 and y = 1
 abbrev pub vectors : ℕ → List ℕ → List (List (ℕ × ℕ))
 vectors d [] = [] ∷ []
 vectors d (x ∷ xs) = flat_map (λ v. map (λ w. (x, v) ∷ w) (vectors d xs)) (range_with_len 0 d)
+
+-- w gives each of these locations, in their order, a value below d
+pub record IsChoice (d : ℕ) (xs : List ℕ) (w : List (ℕ × ℕ)) : Type 0 where
+  pub locations : map (λ e. e.0) w ≡ xs
+  pub values : All (λ e. e.1 < d) w
+
+-- These are all of them, and nothing else.
+abbrev pub VectorsAreTheChoices : Type 0
+VectorsAreTheChoices = (d : ℕ) (xs : List ℕ) (w : List (ℕ × ℕ)) → Contains (vectors d xs) w ↔ IsChoice d xs w
 
 -- the value that a choice has for a location; 0 where it has none
 abbrev pub value_in : List (ℕ × ℕ) → ℕ → ℕ

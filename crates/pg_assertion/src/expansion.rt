@@ -1,10 +1,10 @@
 //! The expansion of a crash formula into a formula about one state of the machine, after this project's own
 //! definition in `specs/Expansion.antt`.
 
-ghost use Rattle.std.specs.Prelude.{◌≡◌, ℕ, ◌<◌, ◌≤◌, ◌↔◌, IsErrOf, length, map, option_map, None, IfOk, OnOk};
+ghost use Rattle.std.specs.Prelude.{◌≡◌, ℕ, ◌<◌, ◌≤◌, ◌↔◌, IsErrOf, length, map, option_map, IfOk, OnOk};
 ghost use Rattle.pg_assertion.specs.declared.expansion.TheConstants.{MAX_EXPANSION_NODES};
 ghost use Rattle.pg_assertion.specs.Formula.{plain, nodes};
-ghost use Rattle.pg_assertion.specs.Expansion.{mentions, named, value_in, fill, constant, AllAtoms, HasValueBelow, conjunction, can_persist, term, terms, joined, joined_all, or_true, expansion_over, expansion, expansion_size, ExpansionsHaveTheirSize, IsAtomOf};
+ghost use Rattle.pg_assertion.specs.Expansion.{mentions, named, value_in, fill, constant, AllAtoms, HasValueBelow, conjunction, can_persist, term, terms, joined, joined_all, or_true, expansion_over, expansion, expansion_size, ExpansionsHaveTheirSize, VectorsAreTheChoices, IsAtomOf};
 
 use crate::atom::{CrashAtom, ViewAtom};
 use crate::formula::Formula;
@@ -60,6 +60,11 @@ pub fn expand(
 /// `D^k * (n + 2k) + D^k - 1` nodes; if it names none, it has n.
 pub fn expansions_have_their_size()
     ensures { ExpansionsHaveTheirSize }
+{}
+
+/// The vectors that an expansion goes over are all choices of a value for each named location.
+pub fn vectors_are_the_choices()
+    ensures { VectorsAreTheChoices }
 {}
 
 /// The number of nodes of the expansion, which is not built.

@@ -12,5 +12,7 @@ mod expansion_tests;
 mod formula;
 
 pub use atom::{CrashAtom, RawAtom, ViewAtom};
-pub use expansion::{ExpandFault, MAX_EXPANSION_NODES, expand, expansions_have_their_size};
+pub use expansion::{
+    ExpandFault, MAX_EXPANSION_NODES, expand, expansions_have_their_size, vectors_are_the_choices,
+};
 pub use formula::Formula;
