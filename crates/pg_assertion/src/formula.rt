@@ -1,7 +1,7 @@
 //! Formulas over atoms of any kind. `Boxed` is a `Box` that contracts see as what it holds.
 
-ghost use Rattle.std.specs.Prelude.{◌≡◌, IfOk};
-ghost use Rattle.pg_assertion.specs.Formula.{plain, neg, both, either, implies};
+ghost use Rattle.std.specs.Prelude.{◌≡◌, ◌<◌, ◌^◌, IfOk};
+ghost use Rattle.pg_assertion.specs.Formula.{plain, nodes, neg, both, either, implies};
 
 use sqlite_items::Boxed;
 use std::alloc::{AllocError, Global};
@@ -45,5 +45,21 @@ impl<T: Drop> Formula<T> {
         ensures { IfOk result (λ h. plain h ≡ implies (plain f) (plain g)) }
     {
         Ok(Formula::Implies(Boxed::new(alloc, f)?, Boxed::new(alloc, g)?))
+    }
+}
+
+impl<T> Formula<T> {
+    /// How many nodes it has: each constant, atom and connective is one.
+    pub fn nodes(&self) -> u64
+        requires { nodes (plain self.now) < 2 ^ 64 }
+        ensures { result ≡ nodes (plain self.now) }
+    {
+        match self {
+            Formula::True | Formula::False | Formula::Atom(_) => 1,
+            Formula::Not(f) => 1 + f.get().nodes(),
+            Formula::And(f, g) | Formula::Or(f, g) | Formula::Implies(f, g) => {
+                1 + f.get().nodes() + g.get().nodes()
+            }
+        }
     }
 }

@@ -6,12 +6,18 @@
 #![tactic(auto)]
 
 mod atom;
+mod expansion;
+#[cfg(test)]
+mod expansion_tests;
 mod formula;
 mod layout;
 #[cfg(test)]
 mod layout_tests;
 
 pub use atom::{CrashAtom, RawAtom, ViewAtom};
+pub use expansion::{
+    ExpandFault, MAX_EXPANSION_NODES, expand, expansions_have_their_size, vectors_are_the_choices,
+};
 pub use formula::Formula;
 pub use layout::{
     Layout, MAX_ATOMS, Numbering, Side, atoms_are_counted, atoms_stand_in_order,
