@@ -6,3 +6,6 @@ mod Sound
 mod Stopped
 mod Complete
 mod Whole
+mod SpellingTokens
+mod SpellingAtoms
+mod Spelling

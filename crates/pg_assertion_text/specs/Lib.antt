@@ -10,3 +10,5 @@ pub mod Below
 pub mod Steps
 pub mod AtomLaws
 pub mod Spelling
+pub mod Parts
+pub mod SpellingLaws

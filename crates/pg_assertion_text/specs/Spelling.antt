@@ -1,6 +1,6 @@
 -- The canonical spelling of formulas: one blank on each side of a sign, none behind `!`, and brackets just where the
 -- formula would be read otherwise.
-use Rattle.std.specs.Prelude.{◌≡◌, ℕ, ◌+◌, ◌<◌, ◌≤◌, max, Bool, true, false, if◌then◌else◌, nat_lt, List, [], ◌∷◌, ◌++◌, length, codes, decimal, All, Some, option_map, unwrap_or, slice_get}
+use Rattle.std.specs.Prelude.{◌≡◌, ℕ, ◌+◌, ◌^◌, ◌<◌, ◌≤◌, max, Bool, true, false, nat_lt, List, [], ◌∷◌, ◌++◌, length, codes, decimal, All, option_map, unwrap_or, slice_get}
 use Rattle.pg_lex.specs.Piece.{is_lower, is_word}
 use Rattle.pg_lex.specs.Grammar.{AllIn, Begins, Stops}
 use Rattle.pg_program.specs.NameTable.{NameTable}
@@ -31,23 +31,22 @@ scalar_name names r = name_in names.scalars r
 abbrev pub equation : List ℕ → ℕ → List ℕ
 equation name k = name ++ (codes " = " ++ decimal k)
 
--- `x,v` and `t,x`, without blanks
-abbrev pub cell : NameTable → ℕ → ℕ → List ℕ
-cell names x v = location_name names x ++ (codes "," ++ decimal v)
-
-abbrev pub place : NameTable → ℕ → ℕ → List ℕ
-place names t x = decimal t ++ (codes "," ++ location_name names x)
+-- what stands in the brackets of an atom, with a comma between, and the closing bracket; no blanks
+abbrev pub arguments : List (List ℕ) → List ℕ
+arguments [] = codes ")"
+arguments (w ∷ []) = w ++ codes ")"
+arguments (w ∷ v ∷ ws) = w ++ (codes "," ++ arguments (v ∷ ws))
 
 abbrev pub spell_atom : NameTable → ViewAtom → List ℕ
 spell_atom names (view.Scalar r k) = equation (scalar_name names r) k
-spell_atom names (view.Last x v) = codes "L(" ++ (cell names x v ++ codes ")")
-spell_atom names (view.Read t x v) = codes "R(" ++ (decimal t ++ (codes "," ++ (cell names x v ++ codes ")")))
-spell_atom names (view.Persist x v) = codes "P(" ++ (cell names x v ++ codes ")")
-spell_atom names (view.Async t x v) = codes "A(" ++ (decimal t ++ (codes "," ++ (cell names x v ++ codes ")")))
-spell_atom names (view.Then t x v y w) = codes "C(" ++ (decimal t ++ (codes "," ++ (cell names x v ++ (codes "," ++ (cell names y w ++ codes ")")))))
-spell_atom names (view.Newest t x) = codes "N(" ++ (place names t x ++ codes ")")
-spell_atom names (view.Ordered t x) = codes "O(" ++ (place names t x ++ codes ")")
-spell_atom names (view.Fenced t x) = codes "F(" ++ (place names t x ++ codes ")")
+spell_atom names (view.Last x v) = codes "L(" ++ arguments (location_name names x ∷ decimal v ∷ [])
+spell_atom names (view.Read t x v) = codes "R(" ++ arguments (decimal t ∷ location_name names x ∷ decimal v ∷ [])
+spell_atom names (view.Persist x v) = codes "P(" ++ arguments (location_name names x ∷ decimal v ∷ [])
+spell_atom names (view.Async t x v) = codes "A(" ++ arguments (decimal t ∷ location_name names x ∷ decimal v ∷ [])
+spell_atom names (view.Then t x v y w) = codes "C(" ++ arguments (decimal t ∷ location_name names x ∷ decimal v ∷ location_name names y ∷ decimal w ∷ [])
+spell_atom names (view.Newest t x) = codes "N(" ++ arguments (decimal t ∷ location_name names x ∷ [])
+spell_atom names (view.Ordered t x) = codes "O(" ++ arguments (decimal t ∷ location_name names x ∷ [])
+spell_atom names (view.Fenced t x) = codes "F(" ++ arguments (decimal t ∷ location_name names x ∷ [])
 
 abbrev pub spell_crash : NameTable → CrashAtom → List ℕ
 spell_crash names (crash.Scalar r k) = equation (scalar_name names r) k
@@ -132,6 +131,16 @@ raw_of (view.Newest t x) = raw.Newest t x
 raw_of (view.Ordered t x) = raw.Ordered t x
 raw_of (view.Fenced t x) = raw.Fenced t x
 
+-- the formula with other atoms
+unfoldable pub with_atoms : {T U : Type 0} → (T → U) → Plain T → Plain U
+with_atoms f top = top
+with_atoms f bottom = bottom
+with_atoms f (atom a) = atom (f a)
+with_atoms f (neg g) = neg (with_atoms f g)
+with_atoms f (both g h) = both (with_atoms f g) (with_atoms f h)
+with_atoms f (either g h) = either (with_atoms f g) (with_atoms f h)
+with_atoms f (implies g h) = implies (with_atoms f g) (with_atoms f h)
+
 -- the names of an atom are declared
 abbrev pub NamesDeclared : NameTable → ViewAtom → Type 0
 NamesDeclared names (view.Scalar r k) = r < length names.scalars
@@ -147,6 +156,22 @@ NamesDeclared names (view.Fenced t x) = x < length names.locations
 abbrev pub CrashDeclared : NameTable → CrashAtom → Type 0
 CrashDeclared names (crash.Scalar r k) = r < length names.scalars
 CrashDeclared names (crash.Location x v) = x < length names.locations
+
+-- the numbers of an atom can be read
+abbrev pub NumbersFit : ViewAtom → Type 0
+NumbersFit (view.Scalar r k) = k < 2 ^ 32
+NumbersFit (view.Last x v) = v < 2 ^ 32
+NumbersFit (view.Read t x v) = (t < 2 ^ 32) × (v < 2 ^ 32)
+NumbersFit (view.Persist x v) = v < 2 ^ 32
+NumbersFit (view.Async t x v) = (t < 2 ^ 32) × (v < 2 ^ 32)
+NumbersFit (view.Then t x v y w) = (t < 2 ^ 32) × (v < 2 ^ 32) × (w < 2 ^ 32)
+NumbersFit (view.Newest t x) = t < 2 ^ 32
+NumbersFit (view.Ordered t x) = t < 2 ^ 32
+NumbersFit (view.Fenced t x) = t < 2 ^ 32
+
+abbrev pub CrashFits : CrashAtom → Type 0
+CrashFits (crash.Scalar r k) = k < 2 ^ 32
+CrashFits (crash.Location x v) = v < 2 ^ 32
 
 -- each atom of a formula is as the claim says
 unfoldable pub EachAtom : {T : Type 0} → (T → Type 0) → Plain T → Type 0

@@ -5,8 +5,12 @@ mod atoms;
 mod formula;
 pub mod laws;
 mod parse;
+mod print;
+#[cfg(test)]
+mod print_tests;
 pub mod tokens;
 
 pub use atoms::ReadAtom;
 pub use parse::{MAX_NODES, MAX_OPEN, parse_crash, parse_formula};
+pub use print::{crash_spelling_stands, print_crash, print_formula, spelling_stands};
 pub use tokens::Tokens;

@@ -74,6 +74,13 @@ impl<'a> Tokens<'a> {
         self.lexer.fork()
     }
 
+    /// Goes on at this lexer's place.
+    pub fn go_to(&mut self, lexer: &Lexer<'a>)
+        ensures { self.new ≡ record self.old { cursor = lexer.now } }
+    {
+        self.lexer = lexer.fork();
+    }
+
     /// How many turns a chain of nodes takes at most.
     pub fn turns(&self) -> u64
         ensures { result ≡ self.now.room + 1 }
