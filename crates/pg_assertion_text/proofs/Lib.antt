@@ -9,3 +9,4 @@ mod Whole
 mod SpellingTokens
 mod SpellingAtoms
 mod Spelling
+mod Again

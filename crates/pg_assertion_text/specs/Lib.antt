@@ -12,3 +12,4 @@ pub mod AtomLaws
 pub mod Spelling
 pub mod Parts
 pub mod SpellingLaws
+pub mod ReadAgain

@@ -2,10 +2,34 @@
 //! the law.
 
 ghost use Rattle.pg_assertion_text.specs.Parsing.{HasOneReading};
+ghost use Rattle.pg_assertion_text.specs.SpellingLaws.{SpellingStands, CrashSpellingStands};
+ghost use Rattle.pg_assertion_text.specs.ReadAgain.{FormulasAreReadAgain, CrashFormulasAreReadAgain};
 
 use crate::atoms::ReadAtom;
 
 /// From a place of a text there is at most one formula to read, and it ends at one place.
 pub fn a_formula_has_one_reading<T: ReadAtom>()
     ensures { HasOneReading T.stands }
+{}
+
+/// The spelling of an assertion is a formula of the grammar, and stands for that assertion: where the declared names are
+/// names of the grammar, each number is below 2^32, no more brackets and `!` are open at once than may be, and no word
+/// goes on behind it.
+pub fn spelling_stands()
+    ensures { SpellingStands }
+{}
+
+/// The same for a crash formula.
+pub fn crash_spelling_stands()
+    ensures { CrashSpellingStands }
+{}
+
+/// The formula of an assertion is read again at any place where it was printed.
+pub fn formulas_are_read_again()
+    ensures { FormulasAreReadAgain }
+{}
+
+/// A crash formula is read again at any place where it was printed.
+pub fn crash_formulas_are_read_again()
+    ensures { CrashFormulasAreReadAgain }
 {}

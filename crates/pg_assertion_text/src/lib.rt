@@ -12,5 +12,5 @@ pub mod tokens;
 
 pub use atoms::ReadAtom;
 pub use parse::{MAX_NODES, MAX_OPEN, parse_crash, parse_formula};
-pub use print::{crash_spelling_stands, print_crash, print_formula, spelling_stands};
+pub use print::{print_crash, print_formula};
 pub use tokens::Tokens;

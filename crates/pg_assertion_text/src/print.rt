@@ -5,7 +5,7 @@ ghost use Rattle.std.specs.Prelude.{◌≡◌, ◌<◌, ◌++◌, [], ◌∷◌,
 ghost use Rattle.pg_assertion.specs.Formula.{plain};
 ghost use Rattle.pg_assertion_text.specs.Spelling as spec;
 ghost use Rattle.pg_assertion_text.specs.Parts.{rule};
-ghost use Rattle.pg_assertion_text.specs.SpellingLaws.{SpellingStands, CrashSpellingStands};
+ghost use Rattle.pg_assertion_text.specs.ReadAgain.{IsReadAgain, IsCrashReadAgain};
 
 use itoa::Buffer;
 use pg_assertion::{CrashAtom, Formula, ViewAtom};
@@ -21,7 +21,7 @@ enum Part {
 }
 
 /// Appends the canonical spelling of an assertion. Its locations and scalars have to be declared. Want of memory leaves
-/// `into` as it was.
+/// `into` as it was. Reading what was printed gives the formula again.
 pub fn print_formula(
     f: &Formula<ViewAtom>,
     names: &Names,
@@ -30,12 +30,13 @@ pub fn print_formula(
     requires { spec.EachAtom (spec.NamesDeclared names.now) (plain f.now) }
     ensures ok { OnOk result (into.new.items ≡ into.old.items ++ spec.spell (spec.spell_atom names.now) (plain f.now)) }
     ensures err { OnErr result (into.new.items ≡ into.old.items) }
+    ensures again { IsReadAgain names.now (plain f.now) }
 {
     print(f, names, into)
 }
 
 /// Appends the canonical spelling of a crash formula. Its locations and scalars have to be declared. Want of memory
-/// leaves `into` as it was.
+/// leaves `into` as it was. Reading what was printed gives the formula again.
 pub fn print_crash(
     f: &Formula<CrashAtom>,
     names: &Names,
@@ -44,6 +45,7 @@ pub fn print_crash(
     requires { spec.EachAtom (spec.CrashDeclared names.now) (plain f.now) }
     ensures ok { OnOk result (into.new.items ≡ into.old.items ++ spec.spell (spec.spell_crash names.now) (plain f.now)) }
     ensures err { OnErr result (into.new.items ≡ into.old.items) }
+    ensures again { IsCrashReadAgain names.now (plain f.now) }
 {
     print(f, names, into)
 }
@@ -267,15 +269,3 @@ fn number(n: u32, into: &mut Vec<u8>) -> Result<(), AllocError>
 {
     into.extend_from_slice(Buffer::new().format(n).as_bytes())
 }
-
-/// The spelling of an assertion is a formula of the grammar, and stands for that assertion: where the declared names are
-/// names of the grammar, each number is below 2^32, no more brackets and `!` are open at once than may be, and no word
-/// goes on behind it.
-pub fn spelling_stands()
-    ensures { SpellingStands }
-{}
-
-/// The same for a crash formula.
-pub fn crash_spelling_stands()
-    ensures { CrashSpellingStands }
-{}

@@ -1,5 +1,5 @@
 use Rattle.pg_assertion_text.proofs.Spelling.{spelling_stands}
-use Rattle.pg_assertion_text.proofs.print.spelling_stands.Goals as goal
+use Rattle.pg_assertion_text.proofs.laws.spelling_stands.Goals as goal
 
 pub returns : goal.returns
 returns c = spelling_stands
