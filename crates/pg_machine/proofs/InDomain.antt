@@ -16,9 +16,10 @@ pub store_within : (p : ProgramTable) → IsProgram p → (t k : ℕ) (s : Stmt)
 store_within p h t k s st low high at is =
     let parts = is_stored s st is in
     let declared = All-head (λ (x : ℕ). x < length p.names.locations) st.0 [] (subst (All (λ (x : ℕ). x < length p.names.locations)) parts.locations (stmt_of p h t k s low high at).locations) in
-    let long = length-map p.names.locations (λ (e : List ℕ × ℕ). e.1) in
-    (omega (arith, declared, long),
-    All-head (λ (v : ℕ). v < p.names.domain) st.1 [] (subst (All (λ (v : ℕ). v < p.names.domain)) (stored-numbers s st parts) (numbers_of_stmt p h t k s low high at)))
+    let long = length-map p.names.locations (λ (e : List ℕ × ℕ). e.1) in (
+      omega (arith, declared, long),
+      All-head (λ (v : ℕ). v < p.names.domain) st.1 [] (subst (All (λ (v : ℕ). v < p.names.domain)) (stored-numbers s st parts) (numbers_of_stmt p h t k s low high at)),
+    )
 
 -- the statement of a store of one thread of stores
 record HasStore (ss : List Stmt) (i : ℕ) (st : ℕ × ℕ) : Type 0 where

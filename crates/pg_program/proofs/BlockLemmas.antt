@@ -46,12 +46,12 @@ kept_layer (While test a) = ap (λ (l : List Stmt). While test l) (kept_list a)
 keeps_stmt : (s : Stmt) → KeepsStmt s
 keeps_stmt = ind-Stmt KeepsAct KeepsStmt
     (λ x y is.
-      ap (λ (e : ActBlocks). e.0) (fold-roll-Act ActBlocks StmtBlocks act_step stmt_step x)
-      ∙ ap roll-Act (subst (λ (z : Act-F Act Stmt). map-Act ActBlocks StmtBlocks Act Stmt (λ e. e.0) (λ e. e.0) (map-Act Act Stmt ActBlocks StmtBlocks act_of stmt_of z) ≡ z) is (kept_layer y)))
+    ap (λ (e : ActBlocks). e.0) (fold-roll-Act ActBlocks StmtBlocks act_step stmt_step x)
+    ∙ ap roll-Act (subst (λ (z : Act-F Act Stmt). map-Act ActBlocks StmtBlocks Act Stmt (λ e. e.0) (λ e. e.0) (map-Act Act Stmt ActBlocks StmtBlocks act_of stmt_of z) ≡ z) is (kept_layer y)))
     (λ x y is.
-      ap (λ (e : StmtBlocks). e.0) (fold-roll-Stmt ActBlocks StmtBlocks act_step stmt_step x)
-      ∙ subst (λ (z : Stmt-F Act Stmt). let w : Stmt = record { act = (act_of z.act).0; aux = z.aux } in w ≡ record { act = z.act; aux = z.aux }) is
-      (ap (λ (a : Act). let w : Stmt = record { act = a; aux = y.aux } in w) y.act.1))
+    ap (λ (e : StmtBlocks). e.0) (fold-roll-Stmt ActBlocks StmtBlocks act_step stmt_step x)
+    ∙ subst (λ (z : Stmt-F Act Stmt). let w : Stmt = record { act = (act_of z.act).0; aux = z.aux } in w ≡ record { act = z.act; aux = z.aux }) is
+    (ap (λ (a : Act). let w : Stmt = record { act = a; aux = y.aux } in w) y.act.1))
 
 -- the blocks of a list's statements, joined, are its block
 joined_block : (ss : List Stmt) → joined (map stmt_of ss) ≡ block ss

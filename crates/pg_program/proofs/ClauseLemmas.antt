@@ -6,6 +6,8 @@ use Rattle.std.proofs.lemmas.List.Elements.{All-head, All-tail}
 use Rattle.pg_program.specs.declared.syntax.Stmt.{Stmt}
 use Rattle.pg_program.specs.declared.point.PointId.{PointId}
 use Rattle.pg_program.specs.declared.fault.ProgramFault.{ProgramFault}
+use Rattle.pg_program.specs.declared.fault.ProgramFault.TheVariants.{DomainSize, UnknownThread, ForeignRegister, AuxInProgram, AuxTwice, ValueOutOfDomain, ExpressionNames, NoMemory}
+use Rattle.std.specs.Prelude.{string_bytes}
 use Rattle.pg_program.specs.declared.name_table.NameKind.{NameKind}
 use Rattle.pg_program.specs.declared.name_table.NameKind.TheVariants as kind
 use Rattle.pg_program.specs.declared.name_table.ScalarKind.{ScalarKind}
@@ -13,7 +15,7 @@ use Rattle.pg_program.specs.declared.name_table.ScalarKind.TheVariants as scalar
 use Rattle.pg_program.specs.NameTable.{NameTable, kind_of}
 use Rattle.pg_program.specs.Block.{block}
 use Rattle.pg_program.specs.Graph.{statements}
-use Rattle.pg_program.specs.Fault.{Fault, told, first_of, unknown_owner, first_outside, in_thread, in_threads, repeated, different, is_in, is_auxiliary, is_auxiliary_kind}
+use Rattle.pg_program.specs.Fault.{Fault, told, first_of, unknown_owner, first_outside, in_thread, in_threads, repeated, different, is_in, is_auxiliary, is_auxiliary_kind, domain_size, unknown_thread, foreign_register, aux_in_program, aux_twice, value_out_of_domain, expression_names}
 use Rattle.pg_program.specs.Outcome.{Finds}
 
 -- ---- one clause after another

@@ -16,7 +16,7 @@ use Rattle.pg_program.specs.NameTable.{NameTable, initial}
 use Rattle.pg_program.specs.Block.{done, node, block, first_of as first_within, second_of as second_within, first_in, second_in}
 use Rattle.pg_program.specs.Graph.{size, statements, is_test, is_loop, is_test_in, is_loop_in, into, exit_of, own_steps, steps}
 use Rattle.pg_program.specs.Expr.{reads, reads_step, numbers, numbers_step}
-use Rattle.pg_program.specs.Fault.{Fault, value_out_of_domain, unknown_thread, first_of, first_outside, outside, outside_in, scalars_of, bracket_scalars, targets, numbers_of, numbers_in, bracket_numbers, groups, groups_in, locations_of, locations_in, own_registers, no_auxiliaries, distinct_targets, numbers_inside, few_names, in_thread, in_threads, first_fault, domain_fault, unknown_owner, is_auxiliary, is_foreign, scalar_name, repeated, is_wide, foreign_register, aux_in_program, aux_twice, expression_names}
+use Rattle.pg_program.specs.Fault.{Fault, value_out_of_domain, unknown_thread, first_of, first_outside, outside, outside_in, scalars_of, bracket_scalars, targets, numbers_of, numbers_in, bracket_numbers, groups, groups_in, locations_of, locations_in, own_registers, no_auxiliaries, distinct_targets, numbers_inside, few_names, in_thread, in_threads, first_fault, domain_fault, domain_size, is_domain, unknown_owner, is_auxiliary, is_foreign, scalar_name, repeated, is_wide, foreign_register, aux_in_program, aux_twice, expression_names}
 use Rattle.pg_program.specs.Program.{ProgramTable, IsStmt, IsThread, AreThreads, thread_of, steps_at}
 use Rattle.pg_program.specs.Straight.{store_of, store_in, number_in, without_bracket, stores_of, straight, straight_fault, stored}
 use Rattle.pg_program.proofs.BlockLemmas.{block-nests}
@@ -277,3 +277,11 @@ straight-fault names (ss ∷ []) es are =
     ∙ (ap (λ (f : Option Fault). first_of domain (first_of owners (first_of initials f))) (alone (option_map value_out_of_domain (first_outside names.domain (stored es))))
     ∙ ap (λ (f : Option Fault). first_of domain (first_of owners f)) (numbers_joined names.domain (initial names) (stored es))))))
 straight-fault names (ss ∷ us ∷ threads) es are = cc
+
+-- the first fault, where the domain and the owners have none
+pub straight_fault-numbers : (names : NameTable) (es : List (ℕ × ℕ)) (o : Option ℕ) → is_domain names.domain ≡ true → unknown_owner 1 names.scalars ≡ None
+    → first_outside names.domain (initial names ++ stored es) ≡ o → straight_fault names es ≡ option_map value_out_of_domain o
+straight_fault-numbers names es o size owners h =
+    let numbers = option_map value_out_of_domain (first_outside names.domain (initial names ++ stored es)) in
+    ap (λ (b : Bool). first_of (cond b None (Some (domain_size names.domain))) (first_of (option_map unknown_thread (unknown_owner 1 names.scalars)) numbers)) size
+    ∙ (ap (λ (p : Option ℕ). first_of (option_map unknown_thread p) numbers) owners ∙ ap (option_map value_out_of_domain) h)

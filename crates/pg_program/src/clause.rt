@@ -147,12 +147,7 @@ fn check_stmt(
     }
 }
 
-fn own_registers(
-    alloc: Global,
-    names: &Names,
-    at: PointId,
-    stmt: &Stmt,
-) -> Result<(), ProgramFault>
+fn own_registers(alloc: Global, names: &Names, at: PointId, stmt: &Stmt) -> Result<(), ProgramFault>
     requires { IsStmt names.now stmt.now }
     ensures { Finds (own_registers names.now at stmt.now) result }
 {

@@ -95,7 +95,11 @@ impl Program {
         requires point { (1 ≤ at.point) × (at.point ≤ points self.now at.thread) }
         ensures { result.now ≡ steps_at self.now at.thread at.point }
     {
-        steps_of(&self.graph, usize::from(at.thread) - 1, usize::from(at.point) - 1)
+        steps_of(
+            &self.graph,
+            usize::from(at.thread) - 1,
+            usize::from(at.point) - 1,
+        )
     }
 
     /// The statement at a point, or `None` at the thread's end.

@@ -93,7 +93,9 @@ fn append_act_numbers(act: &Act, into: &mut Vec<u32>) -> Result<(), AllocError>
     match act {
         Act::Assign { expr, .. } | Act::Store { expr, .. } => append_numbers(expr, into),
         Act::Cas {
-            expected, desired, ..
+            expected,
+            desired,
+            ..
         } => {
             append_numbers(expected, into)?;
             append_numbers(desired, into)
@@ -102,11 +104,8 @@ fn append_act_numbers(act: &Act, into: &mut Vec<u32>) -> Result<(), AllocError>
             append_numbers(&test.left, into)?;
             append_numbers(&test.right, into)
         }
-        Act::Load { .. }
-        | Act::Mfence
-        | Act::Sfence
-        | Act::Flush { .. }
-        | Act::Flushopt { .. } => Ok(()),
+        Act::Load { .. } | Act::Mfence | Act::Sfence | Act::Flush { .. } | Act::Flushopt { .. } =>
+            Ok(()),
     }
 }
 
@@ -135,7 +134,9 @@ fn act_reads_many(alloc: Global, act: &Act) -> Result<bool, AllocError>
     match act {
         Act::Assign { expr, .. } | Act::Store { expr, .. } => is_wide(alloc, expr),
         Act::Cas {
-            expected, desired, ..
+            expected,
+            desired,
+            ..
         } => {
             if is_wide(alloc, expected)? {
                 return Ok(true);
@@ -143,11 +144,8 @@ fn act_reads_many(alloc: Global, act: &Act) -> Result<bool, AllocError>
             is_wide(alloc, desired)
         }
         Act::If { test, .. } | Act::While { test, .. } => is_wide_test(alloc, test),
-        Act::Load { .. }
-        | Act::Mfence
-        | Act::Sfence
-        | Act::Flush { .. }
-        | Act::Flushopt { .. } => Ok(false),
+        Act::Load { .. } | Act::Mfence | Act::Sfence | Act::Flush { .. } | Act::Flushopt { .. } =>
+            Ok(false),
     }
 }
 
