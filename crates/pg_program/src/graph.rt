@@ -76,7 +76,8 @@ impl Program {
 
     /// The number of threads.
     pub fn threads(&self) -> u8
-        ensures { result ≡ length self.now.threads }
+        ensures count { result ≡ length self.now.threads }
+        ensures few { result ≤ 4 }
     {
         self.threads.len() as u8
     }
@@ -84,7 +85,8 @@ impl Program {
     /// The number of a thread's points: one before each statement, and one at the end.
     pub fn points(&self, thread: u8) -> u8
         requires { (1 ≤ thread) × (thread ≤ length self.now.threads) }
-        ensures { result ≡ points self.now thread }
+        ensures count { result ≡ points self.now thread }
+        ensures few { result ≤ 32 }
     {
         count(self.thread(thread)) + 1
     }
