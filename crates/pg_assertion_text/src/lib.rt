@@ -5,6 +5,8 @@ mod atoms;
 mod formula;
 pub mod laws;
 mod parse;
+#[cfg(test)]
+mod parse_tests;
 mod print;
 #[cfg(test)]
 mod print_tests;
