@@ -7,8 +7,8 @@ use Rattle.pg_program.specs.NameTable.{NameTable}
 use Rattle.pg_assertion.specs.declared.atom.ViewAtom.{ViewAtom}
 use Rattle.pg_assertion.specs.declared.atom.CrashAtom.{CrashAtom}
 use Rattle.pg_assertion.specs.declared.atom.CrashAtom.TheVariants as crash
-use Rattle.pg_assertion.specs.Formula.{Plain, top, bottom, atom, neg, both, either, implies, nodes}
-use Rattle.pg_assertion.specs.Expansion.{named, vectors, value_in, constant, fill, conjunction, can_persist, term, expansion_over, expansion, expansion_size, ExpansionsHaveTheirSize, AllAtoms, IsAtomOf, HasValueBelow}
+use Rattle.pg_assertion.specs.Formula.{Plain, top, bottom, atom, neg, both, either, implies, nodes, AllAtoms}
+use Rattle.pg_assertion.specs.Expansion.{named, vectors, value_in, constant, fill, conjunction, can_persist, term, expansion_over, expansion, expansion_size, ExpansionsHaveTheirSize, IsAtomOf, HasValueBelow}
 
 -- ---- values put in
 

@@ -103,16 +103,6 @@ ExpansionsHaveTheirSize =
 
 -- ---- what may be expanded
 
--- each atom of the formula meets P
-abbrev pub AllAtoms : {T : Type 0} → (T → Type 0) → Plain T → Type 0
-AllAtoms P top = Unit {0}
-AllAtoms P bottom = Unit {0}
-AllAtoms P (atom a) = P a
-AllAtoms P (neg f) = AllAtoms P f
-AllAtoms P (both f g) = AllAtoms P f × AllAtoms P g
-AllAtoms P (either f g) = AllAtoms P f × AllAtoms P g
-AllAtoms P (implies f g) = AllAtoms P f × AllAtoms P g
-
 -- the atom's scalar or location is declared, and its value is one of the domain
 abbrev pub IsAtomOf : NameTable → CrashAtom → Type 0
 IsAtomOf t (crash.Scalar r k) = (r < length t.scalars) × (k < t.domain)

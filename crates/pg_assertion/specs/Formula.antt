@@ -34,3 +34,23 @@ nodes (neg f) = 1 + nodes f
 nodes (both f g) = 1 + (nodes f + nodes g)
 nodes (either f g) = 1 + (nodes f + nodes g)
 nodes (implies f g) = 1 + (nodes f + nodes g)
+
+-- each atom of the formula meets P
+abbrev pub AllAtoms : {T : Type 0} → (T → Type 0) → Plain T → Type 0
+AllAtoms P top = Unit {0}
+AllAtoms P bottom = Unit {0}
+AllAtoms P (atom a) = P a
+AllAtoms P (neg f) = AllAtoms P f
+AllAtoms P (both f g) = AllAtoms P f × AllAtoms P g
+AllAtoms P (either f g) = AllAtoms P f × AllAtoms P g
+AllAtoms P (implies f g) = AllAtoms P f × AllAtoms P g
+
+-- the formula with other atoms
+unfoldable pub with_atoms : {T U : Type 0} → (T → U) → Plain T → Plain U
+with_atoms f top = top
+with_atoms f bottom = bottom
+with_atoms f (atom a) = atom (f a)
+with_atoms f (neg g) = neg (with_atoms f g)
+with_atoms f (both g h) = both (with_atoms f g) (with_atoms f h)
+with_atoms f (either g h) = either (with_atoms f g) (with_atoms f h)
+with_atoms f (implies g h) = implies (with_atoms f g) (with_atoms f h)

@@ -3,8 +3,8 @@
 
 ghost use Rattle.std.specs.Prelude.{◌≡◌, ℕ, ◌<◌, ◌≤◌, ◌↔◌, IsErrOf, length, map, option_map, IfOk, OnOk};
 ghost use Rattle.pg_assertion.specs.declared.expansion.TheConstants.{MAX_EXPANSION_NODES};
-ghost use Rattle.pg_assertion.specs.Formula.{plain, nodes};
-ghost use Rattle.pg_assertion.specs.Expansion.{mentions, named, value_in, fill, constant, AllAtoms, HasValueBelow, conjunction, can_persist, term, terms, joined, joined_all, or_true, expansion_over, expansion, expansion_size, ExpansionsHaveTheirSize, VectorsAreTheChoices, IsAtomOf};
+ghost use Rattle.pg_assertion.specs.Formula.{plain, nodes, AllAtoms};
+ghost use Rattle.pg_assertion.specs.Expansion.{mentions, named, value_in, fill, constant, HasValueBelow, conjunction, can_persist, term, terms, joined, joined_all, or_true, expansion_over, expansion, expansion_size, ExpansionsHaveTheirSize, VectorsAreTheChoices, IsAtomOf};
 
 use crate::atom::{CrashAtom, ViewAtom};
 use crate::formula::Formula;

@@ -2,8 +2,8 @@
 
 ghost use Rattle.std.specs.Prelude.{◌≡◌, ℕ, ◌+◌, ◌≤◌, length, IfOk};
 ghost use Rattle.pg_program.specs.NameTable.{NameTable};
-ghost use Rattle.pg_assertion.specs.Formula.{plain, nodes};
-ghost use Rattle.pg_assertion.specs.Expansion.{AllAtoms, IsAtomOf};
+ghost use Rattle.pg_assertion.specs.Formula.{plain, nodes, AllAtoms};
+ghost use Rattle.pg_assertion.specs.Expansion.{IsAtomOf};
 
 use crate::atom::{CrashAtom, ViewAtom};
 use crate::expansion::{ExpandFault, expand};

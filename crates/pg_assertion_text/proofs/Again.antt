@@ -1,19 +1,19 @@
 -- Reading what was printed gives the formula again.
-use Rattle.std.proofs.Common.{◌≡◌, ℕ, ◌+◌, ◌≤◌, false, List, [], ◌++◌, length, Ok, refl, ap, sym, ◌∙◌, subst, zero-add}
+use Rattle.std.proofs.Common.{ℕ, ◌+◌, ◌≤◌, [], ◌++◌, length, Ok, refl, ap, sym, ◌∙◌, subst, zero-add}
 use Rattle.std.proofs.lemmas.List.{append-nil}
 use Rattle.pg_lex.specs.Lex.{Cursor, token}
 use Rattle.pg_program.specs.NameTable.{NameTable}
 use Rattle.pg_assertion.specs.declared.atom.ViewAtom.{ViewAtom}
 use Rattle.pg_assertion.specs.declared.atom.CrashAtom.{CrashAtom}
-use Rattle.pg_assertion.specs.Formula.{Plain, nodes}
+use Rattle.pg_assertion.specs.Formula.{Plain, with_atoms}
 use Rattle.pg_assertion_text.specs.declared.parse.TheConstants.{MAX_NODES, MAX_OPEN}
 use Rattle.pg_assertion_text.specs.Atoms.{raw_atom, crash_atom, IsRaw, IsCrash}
 use Rattle.pg_assertion_text.specs.AtomLaws.{raw_found, raw_again, raw_begins, crash_found, crash_again, crash_begins}
 use Rattle.pg_assertion_text.specs.Follows.{Stops}
 use Rattle.pg_assertion_text.specs.Parsing.{formula_at}
-use Rattle.pg_assertion_text.specs.Spelling.{spell, spell_atom, spell_crash, raw_of, with_atoms}
+use Rattle.pg_assertion_text.specs.Spelling.{spell, spell_atom, spell_crash, raw_of}
 use Rattle.pg_assertion_text.specs.SpellingLaws.{cursor}
-use Rattle.pg_assertion_text.specs.ReadAgain.{IsWhole, FormulasAreReadAgain, CrashFormulasAreReadAgain, IsReadAgain, IsCrashReadAgain}
+use Rattle.pg_assertion_text.specs.ReadAgain.{FormulasAreReadAgain, CrashFormulasAreReadAgain, IsReadAgain, IsCrashReadAgain}
 use Rattle.pg_assertion_text.proofs.Spelling.{spelling_stands, crash_spelling_stands, nodes-with_atoms}
 use Rattle.pg_assertion_text.proofs.Whole.{formula_at_reads}
 

@@ -1,5 +1,5 @@
 -- What an operand begins with, by its first token.
-use Rattle.std.proofs.Common.{◌≡◌, ℕ, Bool, true, false, List, Ok, refl, ap, sym, ◌∙◌, subst}
+use Rattle.std.proofs.Common.{◌≡◌, ℕ, Bool, true, false, List, refl, ap, ◌∙◌, subst}
 use Rattle.std.specs.Prelude.{codes, if◌then◌else◌}
 use Rattle.std.specs.Str.{bytes_eq}
 use Rattle.std.proofs.lemmas.Slice.Eq.{bytes_eq-Decides}
@@ -7,12 +7,12 @@ use Rattle.pg_lex.specs.declared.token.Sign.{Sign}
 use Rattle.pg_lex.specs.declared.token.Sign.TheVariants as s
 use Rattle.pg_lex.specs.declared.token.TokenKind.{TokenKind}
 use Rattle.pg_lex.specs.declared.token.TokenKind.TheVariants as kind
-use Rattle.pg_lex.specs.Lex.{Cursor, Lexeme, token}
+use Rattle.pg_lex.specs.Lex.{Lexeme}
 use Rattle.pg_assertion_text.specs.declared.formula.Opening.{Opening}
 use Rattle.pg_assertion_text.specs.declared.formula.Opening.TheVariants.{Negation, Bracket, Constant, Atom}
 use Rattle.pg_assertion_text.specs.Input.{is_sign}
 use Rattle.pg_assertion_text.specs.Reading.{start, start_by, start_word}
-use Rattle.pg_assertion_text.specs.Steps.{is_sign_found, sign_is_same}
+use Rattle.pg_assertion_text.specs.Steps.{is_sign_found}
 
 pub word_of : Bool → List ℕ
 word_of true = codes "true"

@@ -1,17 +1,16 @@
 -- What is in the grammar is read, where room for its nodes is left and no token goes on with it.
-use Rattle.std.proofs.Common.{◌≡◌, ℕ, zero, suc, ◌+◌, ◌-◌, ◌<◌, ◌≤◌, Bool, true, false, Ok, Err, Some, None, List, [], ◌∷◌, ◌++◌, refl, ap, sym, ◌∙◌, subst, arith}
-use Rattle.std.specs.Prelude.{if◌then◌else◌, Option, codes, Result}
+use Rattle.std.proofs.Common.{◌≡◌, ℕ, zero, suc, ◌+◌, ◌-◌, ◌<◌, ◌≤◌, Bool, true, false, Ok, Some, None, List, [], ◌∷◌, ◌++◌, refl, ap, ◌∙◌, subst, arith}
+use Rattle.std.specs.Prelude.{if◌then◌else◌, Option, codes}
 use Rattle.pg_lex.specs.declared.token.Sign.{Sign}
 use Rattle.pg_lex.specs.declared.token.Sign.TheVariants as s
-use Rattle.pg_lex.specs.declared.token.TokenKind.TheVariants as kind
-use Rattle.pg_lex.specs.Lex.{Cursor, Lexeme, token, after}
+use Rattle.pg_lex.specs.Lex.{Cursor, Lexeme, token}
 use Rattle.pg_program.specs.NameTable.{NameTable}
-use Rattle.pg_assertion.specs.Formula.{Plain, top, bottom, atom, neg, both, either, implies, nodes}
+use Rattle.pg_assertion.specs.Formula.{Plain, atom, neg, both, either, implies, nodes}
 use Rattle.pg_assertion_text.specs.declared.formula.Opening.{Opening}
 use Rattle.pg_assertion_text.specs.declared.formula.Opening.TheVariants.{Negation, Bracket, Constant, Atom}
 use Rattle.pg_assertion_text.specs.Words.{Item, Stands, sign, word, same_sign}
-use Rattle.pg_assertion_text.specs.Input.{Input, Outcome, Parser, and_then, pure, peek, next, node, goes_on, expect, is_sign}
-use Rattle.pg_assertion_text.specs.Reading.{chain_on, chain, implied, arrows_on, arrows, conjunction, disjunction, formula_of, start, truth, deeper, negated, bracketed, operand_by, operand, unary}
+use Rattle.pg_assertion_text.specs.Input.{Input, Parser, and_then, pure, peek, next, node, goes_on, expect, is_sign}
+use Rattle.pg_assertion_text.specs.Reading.{chain_on, chain, implied, arrows_on, arrows, conjunction, disjunction, formula_of, start, truth, negated, bracketed, operand_by, operand, unary}
 use Rattle.pg_assertion_text.specs.Grammar.{Rule, Is, a_true, a_false, an_atom, a_not, a_bracket, a_conj, an_and, a_disj, an_or, a_formula, an_implies}
 use Rattle.pg_assertion_text.specs.Grammar as g
 use Rattle.pg_assertion_text.specs.Follows.{Leaves, Stops}

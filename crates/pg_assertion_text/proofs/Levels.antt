@@ -1,5 +1,5 @@
 -- A reader of operands with a number of levels, and one with the levels below it.
-use Rattle.std.proofs.Common.{◌≡◌, ℕ, zero, suc, ◌+◌, Some, None, refl, ap, arith}
+use Rattle.std.proofs.Common.{◌≡◌, ℕ, zero, suc, Some, None, refl, ap, arith}
 use Rattle.std.specs.Prelude.{Option, option_map}
 use Rattle.pg_assertion_text.specs.Input.{Parser}
 use Rattle.pg_assertion_text.specs.Reading.{unary, operand}

@@ -1,18 +1,15 @@
 -- What is read is in the grammar, and takes as many nodes as it has.
-use Rattle.std.proofs.Common.{◌≡◌, ℕ, zero, suc, ◌+◌, Bool, true, false, Ok, Err, Some, None, List, [], ◌∷◌, ◌++◌, refl, ap, sym, ◌∙◌, subst, arith, rules}
-use Rattle.std.specs.Prelude.{if◌then◌else◌, Option, codes}
+use Rattle.std.proofs.Common.{◌≡◌, ℕ, zero, suc, ◌+◌, Bool, true, false, Ok, Some, None, List, [], ◌∷◌, ◌++◌, refl, ap, sym, ◌∙◌, subst, arith}
+use Rattle.std.specs.Prelude.{if◌then◌else◌, Option}
 use Rattle.pg_lex.specs.declared.token.Sign.{Sign}
 use Rattle.pg_lex.specs.declared.token.Sign.TheVariants as s
-use Rattle.pg_lex.specs.declared.token.TokenKind.TheVariants as kind
-use Rattle.pg_lex.specs.declared.fault.TextFault.TheVariants.{At}
-use Rattle.pg_lex.specs.declared.fault.TextKind.TheVariants.{TooMany, TooDeep}
 use Rattle.pg_lex.specs.Lex.{Cursor, Lexeme, token, after}
 use Rattle.pg_program.specs.NameTable.{NameTable}
-use Rattle.pg_assertion.specs.Formula.{Plain, top, bottom, atom, neg, both, either, implies, nodes}
+use Rattle.pg_assertion.specs.Formula.{Plain, atom, neg, both, either, implies, nodes}
 use Rattle.pg_assertion_text.specs.declared.formula.Opening.{Opening}
 use Rattle.pg_assertion_text.specs.declared.formula.Opening.TheVariants.{Negation, Bracket, Constant, Atom}
-use Rattle.pg_assertion_text.specs.Words.{Stands, sign, word}
-use Rattle.pg_assertion_text.specs.Input.{Input, Outcome, Parser, and_then, pure, refuse, peek, next, node, goes_on, expect}
+use Rattle.pg_assertion_text.specs.Words.{Stands, sign}
+use Rattle.pg_assertion_text.specs.Input.{Input, Parser, and_then, pure, peek, next, node, goes_on, expect}
 use Rattle.pg_assertion_text.specs.Reading.{chain_on, chain, implied, arrows_on, arrows, conjunction, disjunction, formula_of, start, truth, deeper, negated, bracketed, operand_by, operand, unary}
 use Rattle.pg_assertion_text.specs.Grammar as g
 use Rattle.pg_assertion_text.specs.Grammar.{Rule, Is}

@@ -4,10 +4,10 @@ use Rattle.pg_lex.specs.Lex.{Cursor}
 use Rattle.pg_lex.specs.Grammar.{Stops}
 use Rattle.pg_program.specs.NameTable.{NameTable}
 use Rattle.pg_assertion.specs.declared.atom.CrashAtom.{CrashAtom}
-use Rattle.pg_assertion.specs.Formula.{Plain, top, bottom, atom, neg, both, either, implies, nodes}
+use Rattle.pg_assertion.specs.Formula.{Plain, top, bottom, atom, neg, both, either, implies, nodes, AllAtoms, with_atoms}
 use Rattle.pg_assertion_text.specs.Atoms.{IsRaw, IsCrash}
 use Rattle.pg_assertion_text.specs.Grammar.{Rule, unary, conj, disj, formula, Is, a_true, a_false, an_atom, a_not, a_bracket, a_conj, an_and, a_disj, an_or, a_formula, an_implies}
-use Rattle.pg_assertion_text.specs.Spelling.{Ends, EachAtom, spell, spell_atom, spell_crash, opens, rule_of, looseness, is_loose, in_brackets, bracket, raw_of, with_atoms}
+use Rattle.pg_assertion_text.specs.Spelling.{Ends, spell, spell_atom, spell_crash, opens, rule_of, looseness, is_loose, in_brackets, bracket, raw_of}
 use Rattle.pg_assertion_text.specs.SpellingLaws.{cursor, SpellingStands, CrashSpellingStands}
 use Rattle.pg_assertion_text.proofs.SpellingTokens.{Spells, joined, blank, mapped, widened, here, is_equal, not_stands, and_stands, or_stands, arrow_stands, open_stands, close_stands, true_stands, false_stands}
 use Rattle.pg_assertion_text.proofs.SpellingAtoms.{IsSpelled, raw_spelled, crash_spelled}
@@ -21,8 +21,7 @@ at_most conj = omega arith
 at_most disj = omega arith
 at_most formula = omega arith
 
-each_mapped : {T : Type 0} {P Q : T → Type 0} → ((a : T) → P a → Q a) → (f : Plain T) → EachAtom P f → EachAtom Q f
-unfolding EachAtom
+each_mapped : {T : Type 0} {P Q : T → Type 0} → ((a : T) → P a → Q a) → (f : Plain T) → AllAtoms P f → AllAtoms Q f
 each_mapped h top each = tt
 each_mapped h bottom each = tt
 each_mapped h (atom a) each = h a each
@@ -102,8 +101,8 @@ module _ {T U : Type 0} (names : NameTable) (IsAtom : Cursor → U → Cursor �
   first_begins : (loose : Bool) (w v more : List ℕ) → ((rest : List ℕ) → Stops is_equal (w ++ rest)) → Stops is_equal ((in_brackets loose w ++ v) ++ more)
   first_begins loose w v more h = subst (Stops is_equal) (sym (append_assoc (in_brackets loose w) v more)) (part_begins loose w (v ++ more) h)
 
-  begins : (f : Plain T) → EachAtom (IsSpelled IsAtom image of_atom) f → (more : List ℕ) → Stops is_equal (spell of_atom f ++ more)
-  unfolding spell EachAtom
+  begins : (f : Plain T) → AllAtoms (IsSpelled IsAtom image of_atom) f → (more : List ℕ) → Stops is_equal (spell of_atom f ++ more)
+  unfolding spell
   begins top each more = refl
   begins bottom each more = refl
   begins (atom a) each more = each.begins more
@@ -112,8 +111,8 @@ module _ {T U : Type 0} (names : NameTable) (IsAtom : Cursor → U → Cursor �
   begins (either f g) each more = first_begins (is_loose disj f) (spell of_atom f) _ more (begins f each.0)
   begins (implies f g) each more = first_begins (is_loose disj f) (spell of_atom f) _ more (begins f each.0)
 
-  spells : (f : Plain T) (n : ℕ) → EachAtom (IsSpelled IsAtom image of_atom) f → opens f ≤ n → Spells Ends (Phrase (rule_of f) n f) (spell of_atom f)
-  unfolding spell opens EachAtom with_atoms
+  spells : (f : Plain T) (n : ℕ) → AllAtoms (IsSpelled IsAtom image of_atom) f → opens f ≤ n → Spells Ends (Phrase (rule_of f) n f) (spell of_atom f)
+  unfolding spell opens with_atoms
   spells top n each h = mapped (true_stands names) (λ from to stands. a_true n from to stands)
   spells bottom n each h = mapped (false_stands names) (λ from to stands. a_false n from to stands)
   spells (atom a) n each h = mapped each.spells (λ from to is. an_atom n from to (image a) is)
@@ -144,7 +143,7 @@ module _ {T U : Type 0} (names : NameTable) (IsAtom : Cursor → U → Cursor �
       let right = loosened (rule_of g) formula n way.2.0 to (with_atoms image g) (at_most (rule_of g)) way.2.2 in
       an_implies n from way.0 way.2.0 to (with_atoms image f) (with_atoms image g) way.1 way.2.1 right)
 
-  whole : (f : Plain T) (n at : ℕ) (more : List ℕ) → EachAtom (IsSpelled IsAtom image of_atom) f → opens f ≤ n → Ends more
+  whole : (f : Plain T) (n at : ℕ) (more : List ℕ) → AllAtoms (IsSpelled IsAtom image of_atom) f → opens f ≤ n → Ends more
       → Phrase formula n f (cursor at (spell of_atom f ++ more)) (cursor (at + length (spell of_atom f)) more)
   whole f n at more each h ok =
       let from = cursor at (spell of_atom f ++ more) in

@@ -1,5 +1,5 @@
 -- What a text spells stands where the text leads, whatever stands behind it; blanks in front are passed over.
-use Rattle.std.proofs.Common.{◌≡◌, ℕ, Bool, ◌==◌, ◌+◌, ◌-◌, ◌≤◌, false, true, List, [], ◌∷◌, ◌++◌, length, drop, refl, sym, ap, ap₂, subst, ◌∙◌, arith, append_assoc, length-append, lit≤}
+use Rattle.std.proofs.Common.{◌≡◌, ℕ, Bool, ◌==◌, ◌+◌, ◌≤◌, false, true, List, [], ◌∷◌, ◌++◌, length, drop, refl, sym, ap, ap₂, subst, ◌∙◌, arith, append_assoc, length-append, lit≤}
 use Rattle.std.specs.Prelude.{codes, slice_index, Some}
 use Rattle.pg_lex.specs.declared.token.Sign.{Sign}
 use Rattle.pg_lex.specs.declared.token.Sign.TheVariants as s

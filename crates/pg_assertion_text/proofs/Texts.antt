@@ -3,7 +3,7 @@ use Rattle.std.proofs.Common.{◌≡◌, Ok, Err}
 use Rattle.std.specs.Prelude.{Result, MatchResult, IfOk}
 use Rattle.pg_lex.specs.declared.token.Token.{Token}
 use Rattle.pg_lex.specs.declared.fault.TextFault.{TextFault}
-use Rattle.pg_lex.specs.Lex.{Cursor, Lexeme, lexeme, token}
+use Rattle.pg_lex.specs.Lex.{Cursor, lexeme, token}
 use Rattle.pg_lex.proofs.Words.{word_is_utf8}
 use Rattle.pg_assertion_text.specs.Words.{IsText}
 

@@ -1,5 +1,5 @@
 -- Reading a whole formula: it is the formula of the grammar, and there is no other.
-use Rattle.std.proofs.Common.{◌≡◌, ℕ, ◌-◌, ◌<◌, ◌≤◌, Ok, Err, refl, ap, sym, ◌∙◌, subst, arith}
+use Rattle.std.proofs.Common.{◌≡◌, Ok, Err, refl, ap, sym, ◌∙◌, subst, arith}
 use Rattle.std.specs.Prelude.{◌≢◌, Result, IfOk}
 use Rattle.std.specs.Result.{result_unwrap_or}
 use Rattle.pg_lex.specs.declared.fault.TextFault.{TextFault}
@@ -7,7 +7,7 @@ use Rattle.pg_lex.specs.declared.fault.TextFault.TheVariants.{At, NoMemory}
 use Rattle.pg_lex.specs.Lex.{Cursor}
 use Rattle.pg_program.specs.NameTable.{NameTable}
 use Rattle.pg_assertion.specs.declared.formula.Formula.{Formula}
-use Rattle.pg_assertion.specs.Formula.{Plain, plain, nodes}
+use Rattle.pg_assertion.specs.Formula.{Plain, plain}
 use Rattle.pg_assertion_text.specs.declared.parse.TheConstants.{MAX_NODES, MAX_OPEN}
 use Rattle.pg_assertion_text.specs.Input.{Input, Outcome, Parser}
 use Rattle.pg_assertion_text.specs.Reading.{formula}

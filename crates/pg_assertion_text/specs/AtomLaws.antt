@@ -1,19 +1,14 @@
 -- The atoms of assertions and of crash formulas keep what a kind of atom owes.
-use Rattle.std.specs.Prelude.{◌≡◌, ◌⊎◌, ℕ, ◌+◌, ◌-◌, ◌<◌, ◌==◌, Bool, true, false, if◌then◌else◌, List, [], ◌∷◌, ◌++◌, codes, Some, Result, Ok, Err, refl}
+use Rattle.std.specs.Prelude.{◌≡◌, ◌⊎◌, ℕ, ◌-◌, ◌<◌, ◌==◌, Bool, true, false, if◌then◌else◌, List, [], ◌∷◌, ◌++◌, codes, Ok, refl}
 use Rattle.std.specs.Str.{bytes_eq}
-use Rattle.std.proofs.Common.{ap, sym, ◌∙◌, subst, inl, inr, arith}
+use Rattle.std.proofs.Common.{ap, sym, ◌∙◌, subst, inl, inr}
 use Rattle.std.proofs.lemmas.Bool.{eqb-true}
 use Rattle.std.proofs.lemmas.Slice.Eq.{bytes_eq-Decides}
-use Rattle.std.specs.Result.{result_unwrap_or}
 use Rattle.pg_lex.specs.declared.token.Sign.TheVariants as s
 use Rattle.pg_lex.specs.declared.token.TokenKind.{TokenKind}
 use Rattle.pg_lex.specs.declared.token.TokenKind.TheVariants as kind
-use Rattle.pg_lex.specs.declared.fault.TextFault.{TextFault}
-use Rattle.pg_lex.specs.declared.fault.TextFault.TheVariants.{At}
-use Rattle.pg_lex.specs.declared.fault.TextKind.{TextKind}
-use Rattle.pg_lex.specs.declared.fault.TextKind.TheVariants.{Unexpected}
 use Rattle.pg_lex.specs.Lex.{Cursor, Lexeme, token, after}
-use Rattle.pg_program.specs.NameTable.{NameTable, find}
+use Rattle.pg_program.specs.NameTable.{NameTable}
 use Rattle.pg_program.specs.declared.name_table.NameRef.{NameRef}
 use Rattle.pg_program.specs.declared.name_table.NameRef.TheVariants as place
 use Rattle.pg_assertion.specs.declared.atom.RawAtom.{RawAtom}
@@ -24,10 +19,10 @@ use Rattle.pg_assertion_text.specs.declared.formula.Opening.TheVariants as opens
 use Rattle.pg_assertion_text.specs.Words.{Item, sign, letter, number, location, scalar, Matches, Stands, Stand, is_reserved}
 use Rattle.pg_assertion_text.specs.Input as input
 use Rattle.pg_assertion_text.specs.Input.{Input, Outcome, Parser, and_then, pure, refuse, allowed, next, node, expect, named, scalar_in}
-use Rattle.pg_assertion_text.specs.Reading.{start, start_by, start_word}
+use Rattle.pg_assertion_text.specs.Reading.{start, start_by}
 use Rattle.pg_assertion_text.specs.Atoms.{equals, cell, thread, last, seen, read, two_reads, lettered, scalar_atom, raw_by, raw_atom, of_name, crash_atom, raw_items, crash_items, IsRaw, IsCrash}
 use Rattle.pg_assertion_text.specs.Laws.{FindsAtoms, ReadsAtoms, BeginsAtom, BeginsAtoms}
-use Rattle.pg_assertion_text.specs.Steps.{ok_same, bind_then, bind_value, allowed_then, next_found, next_reads, stands_token, Takes, takes_one, takes_then, stand-split, node_takes, node_reads, expect_found, expect_reads, number_found, number_reads, location_found, location_reads, named_found, named_reads, scalar_in_found}
+use Rattle.pg_assertion_text.specs.Steps.{ok_same, bind_then, bind_value, allowed_then, next_found, stands_token, Takes, takes_one, takes_then, stand-split, node_takes, node_reads, expect_found, expect_reads, number_found, number_reads, location_found, location_reads, named_found, named_reads, scalar_in_found}
 
 -- ---- what is read in the brackets stands there
 

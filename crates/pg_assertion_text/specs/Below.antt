@@ -1,5 +1,5 @@
 -- How many brackets and `!` may still be open, one level further in.
-use Rattle.std.specs.Prelude.{ℕ, zero, suc, ◌+◌, Option, Some, None, option_map}
+use Rattle.std.specs.Prelude.{ℕ, zero, suc, ◌+◌, Option, Some, None}
 
 abbrev pub above : Option ℕ → ℕ
 above None = 0

@@ -4,7 +4,7 @@
 --   unary = "!" unary | "(" formula ")" | "true" | "false" | atom
 --
 -- `&` and `|` group to the left, `->` to the right.
-use Rattle.std.specs.Prelude.{◌≡◌, ℕ, suc, codes}
+use Rattle.std.specs.Prelude.{ℕ, suc, codes}
 use Rattle.pg_lex.specs.declared.token.Sign.TheVariants as s
 use Rattle.pg_lex.specs.Lex.{Cursor}
 use Rattle.pg_program.specs.NameTable.{NameTable}

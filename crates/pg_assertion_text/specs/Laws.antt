@@ -1,5 +1,5 @@
 -- What a kind of atom owes, so that formulas over it are read by the grammar.
-use Rattle.std.specs.Prelude.{◌≡◌, ℕ, ◌+◌, ◌-◌, ◌<◌, Result, Ok}
+use Rattle.std.specs.Prelude.{◌≡◌, ◌+◌, ◌-◌, ◌<◌, Ok}
 use Rattle.pg_lex.specs.Lex.{Cursor, Lexeme, token}
 use Rattle.pg_program.specs.NameTable.{NameTable}
 use Rattle.pg_assertion_text.specs.Input.{Input, Parser}

@@ -3,12 +3,12 @@ use Rattle.std.specs.Prelude.{◌≡◌, ℕ, ◌+◌, ◌≤◌, List, [], ◌+
 use Rattle.pg_program.specs.NameTable.{NameTable, IsNameTable}
 use Rattle.pg_assertion.specs.declared.atom.ViewAtom.{ViewAtom}
 use Rattle.pg_assertion.specs.declared.atom.CrashAtom.{CrashAtom}
-use Rattle.pg_assertion.specs.Formula.{Plain, nodes}
+use Rattle.pg_assertion.specs.Formula.{Plain, nodes, AllAtoms, with_atoms}
 use Rattle.pg_assertion_text.specs.declared.parse.TheConstants.{MAX_NODES, MAX_OPEN}
 use Rattle.pg_assertion_text.specs.Atoms.{raw_atom, crash_atom}
 use Rattle.pg_assertion_text.specs.Parsing.{formula_at}
 use Rattle.pg_assertion_text.specs.Follows.{Stops}
-use Rattle.pg_assertion_text.specs.Spelling.{AreNames, Ends, EachAtom, spell, spell_atom, spell_crash, opens, raw_of, with_atoms}
+use Rattle.pg_assertion_text.specs.Spelling.{AreNames, Ends, spell, spell_atom, spell_crash, opens, raw_of}
 use Rattle.pg_assertion_text.specs.SpellingLaws.{IsWritable, IsWritableCrash, cursor}
 
 -- The limits of a text are kept: the names are names of the grammar, those of the formula are declared, its numbers can be
@@ -16,7 +16,7 @@ use Rattle.pg_assertion_text.specs.SpellingLaws.{IsWritable, IsWritableCrash, cu
 pub record IsWhole {T : Type 0} (Writable : NameTable → T → Type 0) (names : NameTable) (f : Plain T) : Type 0 where
   pub table : IsNameTable names
   pub names_are : AreNames names
-  pub atoms : EachAtom (Writable names) f
+  pub atoms : AllAtoms (Writable names) f
   pub shallow : opens f ≤ MAX_OPEN
   pub few : nodes f ≤ MAX_NODES
 

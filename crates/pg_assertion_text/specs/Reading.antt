@@ -11,7 +11,7 @@ use Rattle.pg_lex.specs.Lex.{Lexeme}
 use Rattle.pg_assertion.specs.Formula.{Plain, top, bottom, atom, neg, both, either, implies}
 use Rattle.pg_assertion_text.specs.declared.formula.Opening.{Opening}
 use Rattle.pg_assertion_text.specs.declared.formula.Opening.TheVariants as opens
-use Rattle.pg_assertion_text.specs.Input.{Input, Parser, ◌>>=◌, ◌>>◌, pure, refuse, peek, next, node, goes_on, expect, is_sign}
+use Rattle.pg_assertion_text.specs.Input.{Parser, ◌>>=◌, ◌>>◌, pure, refuse, peek, next, node, goes_on, expect, is_sign}
 
 -- ---- chains: an item, and more items with a sign in front of each, joined to the left
 

@@ -131,16 +131,6 @@ raw_of (view.Newest t x) = raw.Newest t x
 raw_of (view.Ordered t x) = raw.Ordered t x
 raw_of (view.Fenced t x) = raw.Fenced t x
 
--- the formula with other atoms
-unfoldable pub with_atoms : {T U : Type 0} → (T → U) → Plain T → Plain U
-with_atoms f top = top
-with_atoms f bottom = bottom
-with_atoms f (atom a) = atom (f a)
-with_atoms f (neg g) = neg (with_atoms f g)
-with_atoms f (both g h) = both (with_atoms f g) (with_atoms f h)
-with_atoms f (either g h) = either (with_atoms f g) (with_atoms f h)
-with_atoms f (implies g h) = implies (with_atoms f g) (with_atoms f h)
-
 -- the names of an atom are declared
 abbrev pub NamesDeclared : NameTable → ViewAtom → Type 0
 NamesDeclared names (view.Scalar r k) = r < length names.scalars
@@ -172,13 +162,3 @@ NumbersFit (view.Fenced t x) = t < 2 ^ 32
 abbrev pub CrashFits : CrashAtom → Type 0
 CrashFits (crash.Scalar r k) = k < 2 ^ 32
 CrashFits (crash.Location x v) = v < 2 ^ 32
-
--- each atom of a formula is as the claim says
-unfoldable pub EachAtom : {T : Type 0} → (T → Type 0) → Plain T → Type 0
-EachAtom Claim top = Unit {0}
-EachAtom Claim bottom = Unit {0}
-EachAtom Claim (atom a) = Claim a
-EachAtom Claim (neg f) = EachAtom Claim f
-EachAtom Claim (both f g) = EachAtom Claim f × EachAtom Claim g
-EachAtom Claim (either f g) = EachAtom Claim f × EachAtom Claim g
-EachAtom Claim (implies f g) = EachAtom Claim f × EachAtom Claim g

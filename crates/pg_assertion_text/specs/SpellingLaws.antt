@@ -4,10 +4,10 @@ use Rattle.pg_lex.specs.Lex.{Cursor}
 use Rattle.pg_program.specs.NameTable.{NameTable, IsNameTable}
 use Rattle.pg_assertion.specs.declared.atom.ViewAtom.{ViewAtom}
 use Rattle.pg_assertion.specs.declared.atom.CrashAtom.{CrashAtom}
-use Rattle.pg_assertion.specs.Formula.{Plain}
+use Rattle.pg_assertion.specs.Formula.{Plain, AllAtoms, with_atoms}
 use Rattle.pg_assertion_text.specs.Atoms.{IsRaw, IsCrash}
 use Rattle.pg_assertion_text.specs.Grammar.{Is, formula}
-use Rattle.pg_assertion_text.specs.Spelling.{AreNames, Ends, EachAtom, NamesDeclared, NumbersFit, CrashDeclared, CrashFits, spell, spell_atom, spell_crash, opens, raw_of, with_atoms}
+use Rattle.pg_assertion_text.specs.Spelling.{AreNames, Ends, NamesDeclared, NumbersFit, CrashDeclared, CrashFits, spell, spell_atom, spell_crash, opens, raw_of}
 
 abbrev pub cursor : ℕ → List ℕ → Cursor
 cursor at rest = record { at = at; rest = rest }
@@ -23,11 +23,11 @@ IsWritableCrash names a = CrashDeclared names a × CrashFits a
 abbrev pub SpellingStands : Type 0
 SpellingStands =
     (names : NameTable) (f : Plain ViewAtom) (n at : ℕ) (more : List ℕ)
-    → IsNameTable names → AreNames names → EachAtom (IsWritable names) f → opens f ≤ n → Ends more
+    → IsNameTable names → AreNames names → AllAtoms (IsWritable names) f → opens f ≤ n → Ends more
     → Is names (IsRaw names) formula n (cursor at (spell (spell_atom names) f ++ more)) (with_atoms raw_of f) (cursor (at + length (spell (spell_atom names) f)) more)
 
 abbrev pub CrashSpellingStands : Type 0
 CrashSpellingStands =
     (names : NameTable) (f : Plain CrashAtom) (n at : ℕ) (more : List ℕ)
-    → IsNameTable names → AreNames names → EachAtom (IsWritableCrash names) f → opens f ≤ n → Ends more
+    → IsNameTable names → AreNames names → AllAtoms (IsWritableCrash names) f → opens f ≤ n → Ends more
     → Is names (IsCrash names) formula n (cursor at (spell (spell_crash names) f ++ more)) f (cursor (at + length (spell (spell_crash names) f)) more)

@@ -1,5 +1,5 @@
 -- Lemmas on the steps that phrases are read by. What a step takes stands there; what stands there is taken.
-use Rattle.std.specs.Prelude.{◌≡◌, ℕ, zero, suc, ◌+◌, ◌-◌, ◌<◌, ◌==◌, Bool, true, false, if◌then◌else◌, List, [], ◌∷◌, ◌++◌, Option, Some, None, Result, Ok, Err, refl}
+use Rattle.std.specs.Prelude.{◌≡◌, ℕ, ◌+◌, ◌-◌, ◌<◌, ◌==◌, Bool, true, false, if◌then◌else◌, List, [], ◌∷◌, ◌++◌, Option, Some, None, Result, Ok, Err, refl}
 use Rattle.std.proofs.Common.{ap, sym, ◌∙◌, subst, arith}
 use Rattle.std.proofs.lemmas.Bool.{eqb-true, eqb-false}
 use Rattle.std.proofs.Common.{rules}
@@ -17,7 +17,7 @@ use Rattle.pg_lex.specs.Lex.{Cursor, Lexeme, token, after}
 use Rattle.pg_program.specs.NameTable.{NameTable, find}
 use Rattle.pg_program.specs.declared.name_table.NameRef.{NameRef}
 use Rattle.pg_program.specs.declared.name_table.NameRef.TheVariants as place
-use Rattle.pg_assertion_text.specs.Words.{Item, sign, letter, number, word, location, scalar, Matches, Stands, Stand, is_reserved, same_sign}
+use Rattle.pg_assertion_text.specs.Words.{Item, sign, number, location, Matches, Stands, Stand, is_reserved, same_sign}
 use Rattle.pg_assertion_text.specs.Input as input
 use Rattle.pg_assertion_text.specs.Input.{Input, Outcome, Parser, and_then, ◌>>=◌, ◌>>◌, pure, refuse, allowed, seen, peek, next, node, goes_on, expect, is_sign, number_in, named, named_by, declared, location_in, scalar_in}
 

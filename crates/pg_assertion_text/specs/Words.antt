@@ -1,10 +1,9 @@
 -- Words and names, and the tokens that a phrase is made of.
-use Rattle.std.specs.Prelude.{◌≡◌, ℕ, Bool, true, false, List, [], ◌∷◌, codes, Option, Some, None, Result, Ok, Err}
+use Rattle.std.specs.Prelude.{◌≡◌, ℕ, Bool, false, List, [], ◌∷◌, codes, Some, Ok}
 use Rattle.std.specs.List.{list_any}
 use Rattle.std.specs.Str.{bytes_eq, IsUtf8}
 use denote.Enum.Bare.{sameb}
 use Rattle.pg_lex.specs.declared.token.Sign.{Sign}
-use Rattle.pg_lex.specs.declared.token.TokenKind.{TokenKind}
 use Rattle.pg_lex.specs.declared.token.TokenKind.TheVariants as kind
 use Rattle.pg_lex.specs.contracts.token.Sign as signs
 use Rattle.pg_lex.specs.Lex.{Cursor, Lexeme, token, after}

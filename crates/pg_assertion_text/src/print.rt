@@ -2,7 +2,7 @@
 //! where the formula would be read otherwise.
 
 ghost use Rattle.std.specs.Prelude.{◌≡◌, ◌<◌, ◌++◌, [], ◌∷◌, length, decimal, codes, OnOk, OnErr};
-ghost use Rattle.pg_assertion.specs.Formula.{plain};
+ghost use Rattle.pg_assertion.specs.Formula.{plain, AllAtoms};
 ghost use Rattle.pg_assertion_text.specs.Spelling as spec;
 ghost use Rattle.pg_assertion_text.specs.Parts.{rule};
 ghost use Rattle.pg_assertion_text.specs.ReadAgain.{IsReadAgain, IsCrashReadAgain};
@@ -27,7 +27,7 @@ pub fn print_formula(
     names: &Names,
     into: &mut Vec<u8>,
 ) -> Result<(), AllocError>
-    requires { spec.EachAtom (spec.NamesDeclared names.now) (plain f.now) }
+    requires { AllAtoms (spec.NamesDeclared names.now) (plain f.now) }
     ensures ok { OnOk result (into.new.items ≡ into.old.items ++ spec.spell (spec.spell_atom names.now) (plain f.now)) }
     ensures err { OnErr result (into.new.items ≡ into.old.items) }
     ensures again { IsReadAgain names.now (plain f.now) }
@@ -42,7 +42,7 @@ pub fn print_crash(
     names: &Names,
     into: &mut Vec<u8>,
 ) -> Result<(), AllocError>
-    requires { spec.EachAtom (spec.CrashDeclared names.now) (plain f.now) }
+    requires { AllAtoms (spec.CrashDeclared names.now) (plain f.now) }
     ensures ok { OnOk result (into.new.items ≡ into.old.items ++ spec.spell (spec.spell_crash names.now) (plain f.now)) }
     ensures err { OnErr result (into.new.items ≡ into.old.items) }
     ensures again { IsCrashReadAgain names.now (plain f.now) }
@@ -52,7 +52,7 @@ pub fn print_crash(
 
 /// Appends the spelling of a formula, or nothing.
 fn print<T: PrintAtom>(f: &Formula<T>, names: &Names, into: &mut Vec<u8>) -> Result<(), AllocError>
-    requires { spec.EachAtom (T.declared names.now) (plain f.now) }
+    requires { AllAtoms (T.declared names.now) (plain f.now) }
     ensures ok { OnOk result (into.new.items ≡ into.old.items ++ spec.spell (T.spelled names.now) (plain f.now)) }
     ensures err { OnErr result (into.new.items ≡ into.old.items) }
 {
@@ -63,9 +63,9 @@ fn print<T: PrintAtom>(f: &Formula<T>, names: &Names, into: &mut Vec<u8>) -> Res
 
 /// Appends the spelling of a formula.
 #[cycle(print)]
-#[tactic(auto, unfolding(crate::specs::Spelling::spell, crate::specs::Spelling::EachAtom))]
+#[tactic(auto, unfolding(crate::specs::Spelling::spell))]
 fn spell<T: PrintAtom>(f: &Formula<T>, names: &Names, into: &mut Vec<u8>) -> Result<(), AllocError>
-    requires { spec.EachAtom (T.declared names.now) (plain f.now) }
+    requires { AllAtoms (T.declared names.now) (plain f.now) }
     ensures { OnOk result (into.new.items ≡ into.old.items ++ spec.spell (T.spelled names.now) (plain f.now)) }
 {
     match f {
@@ -102,7 +102,7 @@ fn spell_part<T: PrintAtom>(
     names: &Names,
     into: &mut Vec<u8>,
 ) -> Result<(), AllocError>
-    requires { spec.EachAtom (T.declared names.now) (plain f.now) }
+    requires { AllAtoms (T.declared names.now) (plain f.now) }
     ensures { OnOk result (into.new.items ≡ into.old.items ++ spec.in_brackets (spec.is_loose (rule part) (plain f.now)) (spec.spell (T.spelled names.now) (plain f.now))) }
 {
     if is_loose(part, f) {

@@ -1,8 +1,8 @@
 //! Formulas built by hand, and their spelling.
 
 ghost use Rattle.std.specs.Prelude.{◌≡◌, ◌<◌, IsTrue, IfOk, length};
-ghost use Rattle.pg_assertion.specs.Formula.{plain};
-ghost use Rattle.pg_assertion_text.specs.Spelling.{EachAtom, NamesDeclared, CrashDeclared};
+ghost use Rattle.pg_assertion.specs.Formula.{plain, AllAtoms};
+ghost use Rattle.pg_assertion_text.specs.Spelling.{NamesDeclared, CrashDeclared};
 
 use crate::print::{print_crash, print_formula};
 use pg_assertion::{CrashAtom, Formula, ViewAtom};
@@ -166,16 +166,14 @@ fn declared(alloc: Global) -> Result<Names, Fail>
 }
 
 /// The scalar `a` is 1.
-#[tactic(auto, unfolding(crate::specs::Spelling::EachAtom))]
 fn leaf(names: &Names) -> Formula<ViewAtom>
     requires { 1 < length names.now.scalars }
-    ensures { EachAtom (NamesDeclared names.now) (plain result) }
+    ensures { AllAtoms (NamesDeclared names.now) (plain result) }
 {
     Formula::Atom(ViewAtom::Scalar { r: 1, k: 1 })
 }
 
 /// Two formulas with a sign between.
-#[tactic(auto, unfolding(crate::specs::Spelling::EachAtom))]
 fn joined(
     alloc: Global,
     names: &Names,
@@ -183,9 +181,9 @@ fn joined(
     f: Formula<ViewAtom>,
     g: Formula<ViewAtom>,
 ) -> Result<Formula<ViewAtom>, AllocError>
-    requires left { EachAtom (NamesDeclared names.now) (plain f) }
-    requires right { EachAtom (NamesDeclared names.now) (plain g) }
-    ensures { IfOk result (λ h. EachAtom (NamesDeclared names.now) (plain h)) }
+    requires left { AllAtoms (NamesDeclared names.now) (plain f) }
+    requires right { AllAtoms (NamesDeclared names.now) (plain g) }
+    ensures { IfOk result (λ h. AllAtoms (NamesDeclared names.now) (plain h)) }
 {
     match sign {
         Binary::And => Formula::and(alloc, f, g),
@@ -195,29 +193,27 @@ fn joined(
 }
 
 /// `true` and `false` with a sign between.
-#[tactic(auto, unfolding(crate::specs::Spelling::EachAtom))]
 fn constants(alloc: Global, names: &Names, sign: Binary) -> Result<Formula<ViewAtom>, AllocError>
-    ensures { IfOk result (λ h. EachAtom (NamesDeclared names.now) (plain h)) }
+    ensures { IfOk result (λ h. AllAtoms (NamesDeclared names.now) (plain h)) }
 {
     joined(alloc, names, sign, Formula::True, Formula::False)
 }
 
 /// A negation.
-#[tactic(auto, unfolding(crate::specs::Spelling::EachAtom))]
 fn negated(
     alloc: Global,
     names: &Names,
     f: Formula<ViewAtom>,
 ) -> Result<Formula<ViewAtom>, AllocError>
-    requires { EachAtom (NamesDeclared names.now) (plain f) }
-    ensures { IfOk result (λ h. EachAtom (NamesDeclared names.now) (plain h)) }
+    requires { AllAtoms (NamesDeclared names.now) (plain f) }
+    ensures { IfOk result (λ h. AllAtoms (NamesDeclared names.now) (plain h)) }
 {
     Formula::not(alloc, f)
 }
 
 /// A formula's spelling behind a `[`.
 fn printed(alloc: Global, names: &Names, f: Formula<ViewAtom>) -> Result<Vec<u8>, AllocError>
-    requires { EachAtom (NamesDeclared names.now) (plain f) }
+    requires { AllAtoms (NamesDeclared names.now) (plain f) }
 {
     let mut text = Vec::from_slice(alloc, b"[")?;
     print_formula(&f, names, &mut text)?;
@@ -275,14 +271,13 @@ fn is_spelled(alloc: Global, names: &Names, case: &Pair) -> Result<bool, AllocEr
 /// `!!a = 1`.
 fn twice(alloc: Global, names: &Names) -> Result<Formula<ViewAtom>, AllocError>
     requires { 1 < length names.now.scalars }
-    ensures { IfOk result (λ h. EachAtom (NamesDeclared names.now) (plain h)) }
+    ensures { IfOk result (λ h. AllAtoms (NamesDeclared names.now) (plain h)) }
 {
     let once = negated(alloc, names, leaf(names))?;
     negated(alloc, names, once)
 }
 
 /// Whether a case of a sign and a `!` has its spelling.
-#[tactic(auto, unfolding(crate::specs::Spelling::EachAtom))]
 fn is_negated(alloc: Global, names: &Names, case: &Negation) -> Result<bool, AllocError>
     requires { 1 < length names.now.scalars }
 {
@@ -303,7 +298,6 @@ fn is_negated(alloc: Global, names: &Names, case: &Negation) -> Result<bool, All
 }
 
 /// Whether an atom is declared and has its spelling.
-#[tactic(auto, unfolding(crate::specs::Spelling::EachAtom))]
 fn is_atom_spelled(
     alloc: Global,
     names: &Names,
@@ -318,7 +312,6 @@ fn is_atom_spelled(
 }
 
 /// Whether an atom of a crash formula is declared and has its spelling under a `!`.
-#[tactic(auto, unfolding(crate::specs::Spelling::EachAtom))]
 fn is_crash_atom_spelled(
     alloc: Global,
     names: &Names,

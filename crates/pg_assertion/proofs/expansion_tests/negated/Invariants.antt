@@ -1,7 +1,7 @@
 use Rattle.std.proofs.Common.{◌≡◌, ◌+◌, ◌≤◌, length}
 use Rattle.pg_program.specs.NameTable.{NameTable}
-use Rattle.pg_assertion.specs.Formula.{plain, nodes}
-use Rattle.pg_assertion.specs.Expansion.{AllAtoms, IsAtomOf}
+use Rattle.pg_assertion.specs.Formula.{plain, nodes, AllAtoms}
+use Rattle.pg_assertion.specs.Expansion.{IsAtomOf}
 use Rattle.pg_assertion.proofs.expansion_tests.negated.Given as goal
 
 abbrev pub invariant-loop-i : goal.invariant-loop-i

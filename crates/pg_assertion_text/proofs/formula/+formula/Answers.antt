@@ -1,5 +1,5 @@
 -- Each goal says what a chain leads to, by what its turn met.
-use Rattle.std.proofs.Common.{rules, ◌≡◌, ◌≢◌, ◌∙◌, ap, sym, true, false, Ok, Err, ◌+◌, ◌-◌, arith, subst, map, ◌∷◌, [], ◌++◌}
+use Rattle.std.proofs.Common.{rules, ◌≡◌, ◌≢◌, ◌∙◌, ap, sym, Ok, Err, ◌+◌, ◌-◌, arith, subst, map, ◌∷◌, []}
 use Rattle.std.proofs.lemmas.List.{map-append}
 use Rattle.pg_lex.specs.declared.token.Sign.TheVariants.{And, Or}
 use Rattle.pg_lex.specs.declared.fault.TextFault.TheVariants.{NoMemory}

@@ -1,4 +1,4 @@
-use Rattle.std.proofs.Common.{◌≡◌, ap, sym, ◌∙◌, [], ◌∷◌, map}
+use Rattle.std.proofs.Common.{ap, sym, ◌∙◌, [], ◌∷◌, map}
 use Rattle.std.proofs.lemmas.List.{map-append}
 use Rattle.pg_assertion.specs.Formula.{plain}
 use Rattle.pg_assertion_text.specs.Reading as spec
