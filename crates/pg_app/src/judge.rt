@@ -2,7 +2,8 @@
 //! where its bytes stand for an outline each of whose obligations follows, rejected with the first
 //! that does not, and not of the form where they stand for none.
 
-ghost use Rattle.std.specs.Prelude.{◌≤◌, ℕ, IfOk, List, length};
+ghost use Rattle.std.specs.Prelude.{◌≤◌, ℕ, IsSome, IfOk, List, length};
+ghost use Rattle.pg_program.specs.Straight.{straight};
 ghost use Rattle.pg_judge.specs.Path.{path, IsPath};
 ghost use Rattle.pg_path_text.specs.Form.{StandsFor};
 ghost use Rattle.pg_path_text.specs.Outline.{source};
@@ -38,7 +39,8 @@ pub fn judged(alloc: Global, text: &[u8]) -> Result<Outcome, AllocError>
 
 // Judges an outline, whatever text it is of.
 fn judged_outline(alloc: Global, outline: &PathOutline) -> Result<Outcome, AllocError>
-    requires { IsPath (path outline.now) }
+    requires path { IsPath (path outline.now) }
+    requires stores { IsSome (straight outline.now.program.threads) }
     ensures { IfOk result (λ outcome. (text : List ℕ) → StandsFor text (source outline.now) → IsOutcome text outcome) }
 {
     Ok(match check_path(alloc, outline)? {

@@ -1,5 +1,5 @@
 -- From tokens to texts: what a text stands for, and that it stands for at most one outline.
-use Rattle.std.proofs.Common.{◌≡◌, ℕ, ◌<◌, List, [], ◌∷◌, length, Option, Some, None, Result, Ok, Err, IfOk, unwrap_or, refl, sym, ap, subst, ◌∙◌, arith}
+use Rattle.std.proofs.Common.{◌≡◌, ℕ, ◌<◌, List, [], ◌∷◌, length, Option, Some, None, Result, Ok, Err, IfOk, IsSome, unwrap_or, refl, sym, ap, subst, ◌∙◌, arith}
 use Rattle.std.specs.List.{All, AllByRecursion}
 use Rattle.std.specs.Result.{IsErrOf}
 use Rattle.std.proofs.lemmas.List.Elements.{All-from_recursion}
@@ -7,8 +7,9 @@ use Rattle.pg_lex.specs.Lex.{Cursor, start, after}
 use Rattle.std.proofs.lemmas.List.{length-map}
 use Rattle.pg_program.specs.declared.syntax.Stmt.{Stmt}
 use Rattle.pg_program.specs.NameTable.{NameTable}
-use Rattle.pg_program.specs.Straight.{first_fault, initial, straight}
-use Rattle.pg_program.specs.declared.graph.ProgramFault.{ProgramFault}
+use Rattle.pg_program.specs.NameTable.{initial}
+use Rattle.pg_program.specs.Fault.{Fault}
+use Rattle.pg_program.specs.Straight.{straight_fault, straight}
 use Rattle.pg_judge.specs.declared.outline.PathLit.{PathLit}
 use Rattle.pg_judge.specs.declared.outline.PathOutline.{PathOutline}
 use Rattle.pg_judge.specs.Path.{path, IsPath, IsLit as JudgesLit}
@@ -42,15 +43,15 @@ read_of text ts s are stands =
 pub refused : (text : List ℕ) (ts : List Plain) → AreTokens (start text) ts → parts_at ts ≡ None → (s : Source) → StandsFor text s → ⊥
 refused text ts are none s stands = let e = read_of text ts s are stands in cc
 
-pub misfit : (text : List ℕ) (ts : List Plain) (p : Parts) (f : ProgramFault) → AreTokens (start text) ts → parts_at ts ≡ Some p → first_fault p.names p.body.stores ≡ Some f
+pub misfit : (text : List ℕ) (ts : List Plain) (p : Parts) (f : Fault) → AreTokens (start text) ts → parts_at ts ≡ Some p → straight_fault p.names p.body.stores ≡ Some f
     → (s : Source) → StandsFor text s → ⊥
 misfit text ts p f are some fault s stands =
     let same : p ≡ whole.parts_of s = some_same p (whole.parts_of s) (sym some ∙ read_of text ts s are stands) in
-    let none = sym (ap (λ (q : Parts). first_fault q.names q.body.stores) same) ∙ fault in
+    let none = sym (ap (λ (q : Parts). straight_fault q.names q.body.stores) same) ∙ fault in
     let good = whole.no_fault s stands.0 in
     cc
 
-stands_for : (text : List ℕ) (ts : List Plain) (p : Parts) → AreTokens (start text) ts → parts_at ts ≡ Some p → first_fault p.names p.body.stores ≡ None → StandsFor text (source_of p)
+stands_for : (text : List ℕ) (ts : List Plain) (p : Parts) → AreTokens (start text) ts → parts_at ts ≡ Some p → straight_fault p.names p.body.stores ≡ None → StandsFor text (source_of p)
 stands_for text ts p are some none =
     let q = whole.parts_sound ts p some in
     (whole.of_form ts p q none, (ts, are, q.spells))
@@ -102,6 +103,11 @@ pub paths : (ts : List Plain) (p : OutlineParts) (r : Result PathOutline PathFau
 paths ts p (Ok o) some builds = subst (λ (s : Source). IsPath (path_of s)) (sym builds.0) (is_path ts (parts_of p) (whole.parts_sound ts (parts_of p) some))
 paths ts p (Err Form) some builds = tt
 paths ts p (Err NoMemory) some builds = tt
+
+pub stores_of_ok : (p : OutlineParts) (r : Result PathOutline PathFault) → Builds p r → IfOk r (λ o. IsSome (straight o.program.threads))
+stores_of_ok p (Ok o) builds = builds.2
+stores_of_ok p (Err Form) builds = tt
+stores_of_ok p (Err NoMemory) builds = tt
 
 pub none_of : (text : List ℕ) (ts : List Plain) (p : OutlineParts) (r : Result PathOutline PathFault) → AreTokens (start text) ts → parts_at ts ≡ Some (parts_of p) → Builds p r
     → IsErrOf r Form → (s : Source) → StandsFor text s → ⊥

@@ -6,9 +6,10 @@ use Rattle.std.proofs.lemmas.List.{append-nil}
 use Rattle.std.proofs.lemmas.List.Elements.{All-from_recursion, recursion_from_All}
 use Rattle.pg_lex.specs.declared.token.Sign.TheVariants as sign
 use Rattle.pg_program.specs.NameTable.{NameTable, IsNameTable, empty_table}
-use Rattle.pg_program.specs.Straight.{is_domain, first_fault, first_outside, unknown_owner, initial, stored as stored_values}
-use Rattle.pg_program.specs.declared.graph.ProgramFault.TheVariants.{ValueOutOfDomain}
-use Rattle.pg_program.proofs.StraightLemmas.{first_fault-numbers}
+use Rattle.pg_program.specs.NameTable.{initial}
+use Rattle.pg_program.specs.Fault.{is_domain, first_outside, unknown_owner, value_out_of_domain}
+use Rattle.pg_program.specs.Straight.{straight_fault, stored as stored_values}
+use Rattle.pg_program.proofs.StraightLemmas.{straight_fault-numbers}
 use Rattle.pg_judge.specs.declared.outline.PathLit.{PathLit}
 use Rattle.pg_path_text.specs.Symbols.{Plain, word, number, sign as a_sign}
 use Rattle.pg_path_text.specs.Reading.{sign_at, word_at, number_at, one_at, given_at, pre_at, declarations_at, points_at, header_at, thread_at, Body, Parts, parts_at, empty_body}
@@ -301,16 +302,16 @@ no_owner : (names : NameTable) → names.scalars ≡ [] → unknown_owner 1 name
 no_owner names h = ap (unknown_owner 1) h
 
 -- a program of these parts has no fault exactly where each number is in the domain
-numbers_fit : (ts : List Plain) (p : Parts) → ReadParts ts p → first_fault p.names p.body.stores ≡ None → first_outside p.names.domain (initial p.names ++ stored_values p.body.stores) ≡ None
+numbers_fit : (ts : List Plain) (p : Parts) → ReadParts ts p → straight_fault p.names p.body.stores ≡ None → first_outside p.names.domain (initial p.names ++ stored_values p.body.stores) ≡ None
 numbers_fit ts p q h =
     let numbers = first_outside p.names.domain (initial p.names ++ stored_values p.body.stores) in
-    by numbers (sym (first_fault-numbers p.names p.body.stores numbers q.domain (no_owner p.names q.no_scalars) refl) ∙ h)
+    by numbers (sym (straight_fault-numbers p.names p.body.stores numbers q.domain (no_owner p.names q.no_scalars) refl) ∙ h)
   where
-    by : (o : Option ℕ) → option_map ValueOutOfDomain o ≡ None → o ≡ None
+    by : (o : Option ℕ) → option_map value_out_of_domain o ≡ None → o ≡ None
     by None e = refl
     by (Some v) e = cc
 
-pub of_form : (ts : List Plain) (p : Parts) → ReadParts ts p → first_fault p.names p.body.stores ≡ None → IsOfForm (source_of p)
+pub of_form : (ts : List Plain) (p : Parts) → ReadParts ts p → straight_fault p.names p.body.stores ≡ None → IsOfForm (source_of p)
 of_form ts p q h =
     let below = all_parts p.names.domain (initial p.names) (stored_values p.body.stores) (all_below p.names.domain (initial p.names ++ stored_values p.body.stores) (numbers_fit ts p q h)) in
     record {
@@ -327,9 +328,9 @@ of_form ts p q h =
           (both_stores p.names p.body.stores q.stores (of_map (λ (t : ℕ × ℕ). t.1) p.names.domain p.body.stores below.1));
     }
 
-pub no_fault : (s : Source) → IsOfForm s → first_fault s.names s.stores ≡ None
+pub no_fault : (s : Source) → IsOfForm s → straight_fault s.names s.stores ≡ None
 no_fault s f =
-    first_fault-numbers s.names s.stores None f.domain (no_owner s.names f.no_scalars)
+    straight_fault-numbers s.names s.stores None f.domain (no_owner s.names f.no_scalars)
     (none_outside s.names.domain (initial s.names ++ stored_values s.stores)
     (all_joined s.names.domain (initial s.names) (stored_values s.stores)
     (to_map (λ (e : List ℕ × ℕ). e.1) s.names.domain s.names.locations (recursion_from_All (λ (e : List ℕ × ℕ). e.1 < s.names.domain) s.names.locations f.inits))

@@ -4,7 +4,7 @@ use Rattle.std.specs.List.{flat_map}
 use Rattle.pg_lex.specs.declared.token.Sign.TheVariants as sign
 use Rattle.pg_lex.specs.Lex.{start}
 use Rattle.pg_program.specs.NameTable.{NameTable, IsNameTable}
-use Rattle.pg_program.specs.Straight.{is_domain}
+use Rattle.pg_program.specs.Fault.{is_domain}
 use Rattle.pg_judge.specs.declared.outline.PathLit.{PathLit}
 use Rattle.pg_path_text.specs.Symbols.{Plain, word, number, letter, sign as a_sign, AreTokens}
 use Rattle.pg_path_text.specs.Reading.{is_reserved}

@@ -1,7 +1,8 @@
 -- The outline that is made of what was read.
-use Rattle.std.specs.Prelude.{◌≡◌, [], map, Some, None, Result, Ok, Err, unwrap_or}
-use Rattle.pg_program.specs.Straight.{straight, first_fault, initial}
-use Rattle.pg_program.specs.declared.graph.ProgramFault.{ProgramFault}
+use Rattle.std.specs.Prelude.{◌≡◌, [], map, Some, None, IsSome, Result, Ok, Err, unwrap_or}
+use Rattle.pg_program.specs.NameTable.{initial}
+use Rattle.pg_program.specs.Fault.{Fault}
+use Rattle.pg_program.specs.Straight.{straight, straight_fault}
 use Rattle.pg_judge.specs.declared.outline.PathOutline.{PathOutline}
 use Rattle.pg_judge.specs.Path.{Path}
 use Rattle.pg_path_text.specs.declared.fault.PathFault.{PathFault}
@@ -32,6 +33,6 @@ source_of_parts p = record { names = p.names; pre = p.pre.items; notes = map (λ
 
 -- the outline of the parts, where their program has no fault
 abbrev pub Builds : OutlineParts → Result PathOutline PathFault → Type 0
-Builds p (Ok o) = (source o ≡ source_of_parts p) × (first_fault p.names p.thread.stores.items ≡ None)
-Builds p (Err Form) = (f : ProgramFault) × (first_fault p.names p.thread.stores.items ≡ Some f)
+Builds p (Ok o) = (source o ≡ source_of_parts p) × (straight_fault p.names p.thread.stores.items ≡ None) × IsSome (straight o.program.threads)
+Builds p (Err Form) = (f : Fault) × (straight_fault p.names p.thread.stores.items ≡ Some f)
 Builds p (Err NoMemory) = Unit {0}

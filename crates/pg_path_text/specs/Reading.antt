@@ -9,7 +9,7 @@ use Rattle.pg_lex.specs.declared.token.Sign.{Sign}
 use Rattle.pg_lex.specs.declared.token.Sign.TheVariants as sign
 use Rattle.pg_lex.specs.contracts.token.Sign as signs
 use Rattle.pg_program.specs.NameTable.{NameTable, find, is_full, with_name, empty_table}
-use Rattle.pg_program.specs.Straight.{is_domain}
+use Rattle.pg_program.specs.Fault.{is_domain}
 use Rattle.pg_program.specs.declared.name_table.NameKind.TheVariants as kind
 use Rattle.pg_program.specs.declared.name_table.NameRef.{NameRef}
 use Rattle.pg_program.specs.declared.name_table.NameRef.TheVariants as place

@@ -1,8 +1,9 @@
 //! Whole texts, and the outlines that they stand for.
 
-ghost use Rattle.std.specs.Prelude.{◌≡◌, ℕ, ◌+◌, ◌^◌, ◌<◌, ◌≤◌, List, length, map, All, IfOk, IsErrOf, MatchResult, Some, None};
+ghost use Rattle.std.specs.Prelude.{◌≡◌, ℕ, ◌+◌, ◌^◌, ◌<◌, ◌≤◌, List, length, map, All, IsSome, IfOk, IsErrOf, MatchResult, Some, None};
 ghost use Rattle.pg_judge.specs.Path.{path, IsPath};
-ghost use Rattle.pg_program.specs.Straight.{store_of, stores_of, first_fault};
+ghost use Rattle.pg_program.specs.Fault.{told};
+ghost use Rattle.pg_program.specs.Straight.{store_of, stores_of, straight};
 ghost use Rattle.pg_path_text.specs.Symbols.{plain};
 ghost use Rattle.pg_path_text.specs.Reading.{Parts, parts_at};
 ghost use Rattle.pg_path_text.specs.Gives.{Whole};
@@ -13,7 +14,7 @@ use crate::fault::PathFault;
 use crate::grammar::{Reader, ThreadParts};
 use crate::symbol::{Symbol, symbols_of};
 use pg_judge::{PathLit, PathOutline};
-use pg_program::{Act, Expr, Names, Program, Stmt};
+use pg_program::{Act, Expr, Names, Program, ProgramFault, Stmt};
 use sqlite_items::Items;
 use std::alloc::{AllocError, Global};
 
@@ -22,6 +23,7 @@ pub fn read_path(alloc: Global, text: &[u8]) -> Result<PathOutline, PathFault>
     requires { length text.now < 2 ^ 32 }
     ensures found { IfOk result (λ o. StandsFor text.now (source o)) }
     ensures path { IfOk result (λ o. IsPath (path o)) }
+    ensures stores { IfOk result (λ o. IsSome (straight o.program.threads)) }
     ensures form { IsErrOf result PathFault.Form → (s : Source) → StandsFor text.now s → ⊥ }
 {
     let symbols = symbols_of(alloc, text)?;
@@ -61,13 +63,23 @@ fn outline(alloc: Global, parts: OutlineParts) -> Result<PathOutline, PathFault>
     let stmts = statements(alloc, &stores)?;
     let mut threads = Vec::new(alloc);
     threads.push(stmts)?;
-    match Program::build(names, threads) {
+    match Program::build(alloc, names, threads) {
         Ok(program) => Ok(PathOutline {
             program,
             pre,
             notes,
         }),
-        Err(_) => Err(PathFault::Form),
+        Err(fault) => Err(refusal(fault)),
+    }
+}
+
+/// What a fault of the program makes of the text.
+fn refusal(fault: ProgramFault) -> PathFault
+    ensures { result ≡ PathFault.Form → IsSome (told fault) }
+{
+    match fault {
+        ProgramFault::NoMemory => PathFault::NoMemory,
+        _ => PathFault::Form,
     }
 }
 

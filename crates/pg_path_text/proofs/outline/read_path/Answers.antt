@@ -34,3 +34,6 @@ pub returns-clause-form : goal.returns-clause-form
 returns-clause-form c =
     let are = subst (λ (l : List Symbol). AreTokens (start c.args.text.now) (map plain l)) (sym c.deref.ensures.value) c.in_ok-symbols.ensures.found in
     stands.none_of c.args.text.now (map plain c.deref.result.now) c.in_ok-parts.parts c.outline.result are c.in_ok-parts.ensures c.outline.ensures
+
+pub returns-clause-stores : goal.returns-clause-stores
+returns-clause-stores c = stands.stores_of_ok c.in_ok-parts.parts c.outline.result c.outline.ensures

@@ -1,0 +1,5 @@
+mod Links
+mod Levels
+mod Names
+mod Assigned
+mod Lined

@@ -1,0 +1,5 @@
+pub mod Expr
+pub mod Keywords
+pub mod Stmt
+pub mod Thread
+pub mod Text
