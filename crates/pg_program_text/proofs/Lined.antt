@@ -21,7 +21,6 @@ none_left n i h = omega arith
 -- ---- blocks
 
 module _ (names : NameTable) (stmt : Parser Noted) (n i : ℕ) (l : Lines) (t : Input) (whole : Outcome Lines) where
-
   line_turn : (o : Outcome Bool) → i < n → whole ≡ lines_on names stmt (n - i) l t → ends t ≡ o → whole ≡ and_then o (line_or_end names stmt (lines_on names stmt (n - (i + 1))) l)
   unfolding lines_on
   line_turn o below is gives =
@@ -61,7 +60,6 @@ module _ (names : NameTable) (stmt : Parser Noted) (n i : ℕ) (l : Lines) (t : 
 -- ---- the body of a thread
 
 module _ (names : NameTable) (n i : ℕ) (l : Lines) (t : Input) (whole : Outcome Lines) where
-
   body_turn : (o : Outcome (Plain RawAtom)) → i < n → whole ≡ body_on names (n - i) l t → note names t ≡ o
       → whole ≡ and_then o (λ f v. and_then (peek v) (λ k. line_or_last names (body_on names (n - (i + 1))) l f (begins names k)))
   unfolding body_on

@@ -3,3 +3,4 @@ pub mod Keywords
 pub mod Stmt
 pub mod Thread
 pub mod Text
+pub mod Grammar

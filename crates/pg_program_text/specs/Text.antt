@@ -1,5 +1,8 @@
 -- What contracts see of the text of a thread.
-use Rattle.std.specs.Prelude.{map}
+use Rattle.std.specs.Prelude.{◌≡◌, ◌≢◌, map, Result, Ok, Err}
+use Rattle.pg_lex.specs.declared.fault.TextFault.{TextFault}
+use Rattle.pg_lex.specs.declared.fault.TextFault.TheVariants.{NoMemory}
+use Rattle.pg_lex.specs.Lex.{Cursor}
 use Rattle.pg_assertion.specs.Formula.{plain}
 use Rattle.pg_program_text.specs.declared.thread.ThreadText.{ThreadText}
 use Rattle.pg_program_text.specs.declared.thread.NotedStmt.{NotedStmt}
@@ -10,3 +13,8 @@ lines t = record { stmts = t.stmts.items; notes = map plain t.notes.items }
 
 abbrev pub noted : NotedStmt → Noted
 noted n = record { stmt = n.stmt; notes = map plain n.notes.items }
+
+-- the outcome, unless memory runs out
+abbrev pub ReadsAt : Result (Lines × Cursor) TextFault → Result ThreadText TextFault → Cursor → Type 0
+ReadsAt outcome (Ok t) new = outcome ≡ Ok (lines t, new)
+ReadsAt outcome (Err e) new = e ≢ NoMemory → outcome ≡ Err e

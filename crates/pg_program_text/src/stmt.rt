@@ -30,11 +30,7 @@ pub const MAX_ASSIGNMENTS: u32 = 4;
 
 /// An expression.
 #[tactic(auto, unfolding(crate::specs::Stmt::expression))]
-pub fn expression(
-    alloc: Global,
-    tokens: &mut Tokens<'_>,
-    names: &Names,
-) -> Result<Expr, TextFault>
+pub fn expression(alloc: Global, tokens: &mut Tokens<'_>, names: &Names) -> Result<Expr, TextFault>
     ensures { Reads (λ a. a) (spec.expression names.now tokens.old) result tokens.new }
 {
     let mut inner = Tokens::new(&tokens.lexer(), MAX_EXPR_NODES);
@@ -113,12 +109,7 @@ pub fn test(alloc: Global, tokens: &mut Tokens<'_>, names: &Names) -> Result<Con
 
 /// `( x , expected , desired )`, behind `r := cas`.
 #[tactic(auto, unfolding(crate::specs::Stmt::swap))]
-fn swap(
-    alloc: Global,
-    tokens: &mut Tokens<'_>,
-    names: &Names,
-    target: u8,
-) -> Result<Act, TextFault>
+fn swap(alloc: Global, tokens: &mut Tokens<'_>, names: &Names, target: u8) -> Result<Act, TextFault>
     ensures { Reads (λ a. a) (spec.swap names.now target tokens.old) result tokens.new }
 {
     tokens.expect(Sign::Open)?;

@@ -1,14 +1,14 @@
 //! Statements with their blocks, and the body of a thread, read from their tokens. A block opens a level; nothing else is
 //! read by recursion.
 
-ghost use Rattle.std.specs.Prelude.{◌≡◌, option_map, IfOk, OnOk};
+ghost use Rattle.std.specs.Prelude.{◌≡◌, option_map, IfOk, OnOk, OnErr};
 ghost use Rattle.pg_lex.specs.Lex.{lexeme};
 ghost use Rattle.pg_assertion.specs.Formula.{plain};
 ghost use Rattle.pg_assertion_text.specs.Input.{Does, Reads};
 ghost use Rattle.pg_assertion_text.specs.Words.{IsText};
 ghost use Rattle.pg_program_text.specs.Thread as spec;
 ghost use Rattle.pg_program_text.specs.Thread.{with_line, no_lines};
-ghost use Rattle.pg_program_text.specs.Text.{lines, noted};
+ghost use Rattle.pg_program_text.specs.Text.{lines, noted, ReadsAt};
 
 use crate::keyword::{Keyword, keyword_at};
 use crate::stmt::{act, bracket, note, test};
@@ -75,11 +75,7 @@ fn bare(alloc: Global, act: Act) -> Stmt
 
 /// A statement that is no branch and no loop.
 #[tactic(auto, unfolding(crate::specs::Thread::simple))]
-fn simple(
-    alloc: Global,
-    tokens: &mut Tokens<'_>,
-    names: &Names,
-) -> Result<NotedStmt, TextFault>
+fn simple(alloc: Global, tokens: &mut Tokens<'_>, names: &Names) -> Result<NotedStmt, TextFault>
     ensures { Reads noted (spec.simple names.now tokens.old) result tokens.new }
 {
     let act = act(alloc, tokens, names)?;
@@ -299,4 +295,43 @@ fn too_deep(token: &Token<'_>) -> TextFault
     } else {
         unexpected(token.place)
     }
+}
+
+/// The body of a thread: a note, and statements with a note behind each.
+fn body(alloc: Global, tokens: &mut Tokens<'_>, names: &Names) -> Result<ThreadText, TextFault>
+    ensures { Reads lines (spec.body names.now tokens.old) result tokens.new }
+{
+    let mut text = ThreadText::new(alloc);
+    'lines: for _i in 0..tokens.turns() {
+        let note = note(alloc, tokens, names)?;
+        let token = tokens.peek()?;
+        if !begins(names, &token) {
+            text.notes.push(note)?;
+            return Ok(text);
+        }
+        let line = statement(alloc, tokens, names, MAX_BLOCKS)?;
+        text.add(note, line)?;
+    }
+    Err(refused(0, TextKind::TooMany))
+}
+
+/// Reads the body of a thread at the lexer's place, as long as tokens go on with it: a note, and statements with a note behind
+/// each. The lexer stands behind it then, and after a refusal where it stood.
+///
+/// A fault is the first one of the text: a token that cannot stand there (`Unexpected`), a name that is not declared
+/// (`UnknownName`), the token of a node, an assignment or a point that is one too many (`TooMany`), a `(`, `!` or `{` that opens
+/// one level too many (`TooDeep`), or a token that the lexer refuses.
+#[tactic(auto, unfolding(crate::specs::Thread::thread_at))]
+pub fn parse_thread(
+    alloc: Global,
+    lexer: &mut Lexer<'_>,
+    names: &Names,
+) -> Result<ThreadText, TextFault>
+    ensures exact { ReadsAt (spec.thread_at names.now lexer.old) result lexer.new }
+    ensures err { OnErr result (lexer.new ≡ lexer.old) }
+{
+    let mut tokens = Tokens::new(lexer, MAX_POINTS);
+    let text = body(alloc, &mut tokens, names)?;
+    *lexer = tokens.lexer();
+    Ok(text)
 }

@@ -15,12 +15,12 @@ use Rattle.pg_program_text.proofs.thread.+thread.Goals.{statement-then-levels-eq
 pub statement-returns : goal.statement-returns
 statement-returns t c =
     let levels : above c.if-levels-eq0.below ≡ c.args.levels =
-            elim c.if-levels-eq0.branch [
-              | statement-then-levels-eq0 w ↦ ap above w.below-is ∙ sym w.if-levels-eq0.true
-              | statement-else-levels-eq0 w ↦ ap above w.below-is ∙ omega arith
-            ] in
+    elim c.if-levels-eq0.branch [
+      | statement-then-levels-eq0 w ↦ ap above w.below-is ∙ sym w.if-levels-eq0.true
+      | statement-else-levels-eq0 w ↦ ap above w.below-is ∙ omega arith
+    ] in
     subst (λ o. Reads noted o c.statement_in.result c.statement_in.new.tokens)
-        (ap (λ (p : Parser Noted). p c.args.tokens.now) (sym (statement_below c.args.names.now c.args.levels c.if-levels-eq0.below levels))) c.statement_in.ensures
+    (ap (λ (p : Parser Noted). p c.args.tokens.now) (sym (statement_below c.args.names.now c.args.levels c.if-levels-eq0.below levels))) c.statement_in.ensures
 
 pub block_lines-returns-in_err-ends : goal.block_lines-returns-in_err-ends
 block_lines-returns-in_err-ends t c =
@@ -34,19 +34,19 @@ block_lines-returns-then-branch t c =
 pub block_lines-returns-in_err-note : goal.block_lines-returns-in_err-note
 block_lines-returns-in_err-note t c =
     let fails = λ (memory : c.in_err-note.field-0.0 ≢ NoMemory).
-        lines_unnoted c.args.names.now (spec.statement c.args.names.now c.args.levels) c.turns-i-end.result c.lines._i (lines c.lines.text) c.lines.tokens _ c.ends.new.tokens _ c.lines-test.true c.lines.invariant (c.in_ok-ends.ensures ∙ ap (λ b. Ok (b, c.ends.new.tokens)) c.if-branch.false) (c.in_err-note.ensures memory) in
+    lines_unnoted c.args.names.now (spec.statement c.args.names.now c.args.levels) c.turns-i-end.result c.lines._i (lines c.lines.text) c.lines.tokens _ c.ends.new.tokens _ c.lines-test.true c.lines.invariant (c.in_ok-ends.ensures ∙ ap (λ b. Ok (b, c.ends.new.tokens)) c.if-branch.false) (c.in_err-note.ensures memory) in
     search rules
 
 pub block_lines-returns-in_err-line : goal.block_lines-returns-in_err-line
 block_lines-returns-in_err-line t c =
     let fails = λ (memory : c.in_err-line.field-0.0 ≢ NoMemory).
-        lines_fail c.args.names.now (spec.statement c.args.names.now c.args.levels) c.turns-i-end.result c.lines._i (lines c.lines.text) c.lines.tokens _ c.ends.new.tokens c.note.new.tokens (plain c.in_ok-note.note) _ c.lines-test.true c.lines.invariant (c.in_ok-ends.ensures ∙ ap (λ b. Ok (b, c.ends.new.tokens)) c.if-branch.false) c.in_ok-note.ensures (c.in_err-line.ensures memory) in
+    lines_fail c.args.names.now (spec.statement c.args.names.now c.args.levels) c.turns-i-end.result c.lines._i (lines c.lines.text) c.lines.tokens _ c.ends.new.tokens c.note.new.tokens (plain c.in_ok-note.note) _ c.lines-test.true c.lines.invariant (c.in_ok-ends.ensures ∙ ap (λ b. Ok (b, c.ends.new.tokens)) c.if-branch.false) c.in_ok-note.ensures (c.in_err-line.ensures memory) in
     search rules
 
 pub block_lines-lines-preserved : goal.block_lines-lines-preserved
 block_lines-lines-preserved t c =
     lines_go c.args.names.now (spec.statement c.args.names.now c.args.levels) c.turns-i-end.result c.lines._i (lines c.lines.text) c.lines.tokens _ c.ends.new.tokens c.note.new.tokens c.statement.new.tokens (plain c.in_ok-note.note) (noted c.in_ok-line.line) c.lines-test.true c.lines.invariant
-        (c.in_ok-ends.ensures ∙ ap (λ b. Ok (b, c.ends.new.tokens)) c.if-branch.false) c.in_ok-note.ensures c.in_ok-line.ensures
+    (c.in_ok-ends.ensures ∙ ap (λ b. Ok (b, c.ends.new.tokens)) c.if-branch.false) c.in_ok-note.ensures c.in_ok-line.ensures
     ∙ ap (λ l. spec.lines_on c.args.names.now (spec.statement c.args.names.now c.args.levels) (c.turns-i-end.result - (c.lines._i + 1)) l c.statement.new.tokens) (sym c.in_ok-add.ensures)
 
 pub block_lines-returns : goal.block_lines-returns
