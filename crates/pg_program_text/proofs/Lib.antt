@@ -3,3 +3,9 @@ mod Levels
 mod Names
 mod Assigned
 mod Lined
+mod ExprSound
+mod ExprComplete
+mod PartsSound
+pub mod ThreadSound
+mod PartsComplete
+mod ThreadComplete

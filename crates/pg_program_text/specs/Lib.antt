@@ -2,5 +2,5 @@ pub mod Expr
 pub mod Keywords
 pub mod Stmt
 pub mod Thread
-pub mod Text
 pub mod Grammar
+pub mod Text

@@ -2,13 +2,14 @@
 //! read by recursion.
 
 ghost use Rattle.std.specs.Prelude.{◌≡◌, option_map, IfOk, OnOk, OnErr};
-ghost use Rattle.pg_lex.specs.Lex.{lexeme};
+ghost use Rattle.pg_lex.specs.Lex.{Cursor, lexeme};
 ghost use Rattle.pg_assertion.specs.Formula.{plain};
 ghost use Rattle.pg_assertion_text.specs.Input.{Does, Reads};
 ghost use Rattle.pg_assertion_text.specs.Words.{IsText};
 ghost use Rattle.pg_program_text.specs.Thread as spec;
-ghost use Rattle.pg_program_text.specs.Thread.{with_line, no_lines};
-ghost use Rattle.pg_program_text.specs.Text.{lines, noted, ReadsAt};
+ghost use Rattle.pg_program_text.specs.Thread.{Lines, with_line, no_lines};
+ghost use Rattle.pg_program_text.specs.Text.{lines, noted, ReadsAt, Answers};
+ghost use Rattle.pg_program_text.specs.Grammar.{IsThreadText};
 
 use crate::keyword::{Keyword, keyword_at};
 use crate::stmt::{act, bracket, note, test};
@@ -315,18 +316,9 @@ fn body(alloc: Global, tokens: &mut Tokens<'_>, names: &Names) -> Result<ThreadT
     Err(refused(0, TextKind::TooMany))
 }
 
-/// Reads the body of a thread at the lexer's place, as long as tokens go on with it: a note, and statements with a note behind
-/// each. The lexer stands behind it then, and after a refusal where it stood.
-///
-/// A fault is the first one of the text: a token that cannot stand there (`Unexpected`), a name that is not declared
-/// (`UnknownName`), the token of a node, an assignment or a point that is one too many (`TooMany`), a `(`, `!` or `{` that opens
-/// one level too many (`TooDeep`), or a token that the lexer refuses.
+/// Reads the body of a thread, without the words of the grammar.
 #[tactic(auto, unfolding(crate::specs::Thread::thread_at))]
-pub fn parse_thread(
-    alloc: Global,
-    lexer: &mut Lexer<'_>,
-    names: &Names,
-) -> Result<ThreadText, TextFault>
+fn read_thread(alloc: Global, lexer: &mut Lexer<'_>, names: &Names) -> Result<ThreadText, TextFault>
     ensures exact { ReadsAt (spec.thread_at names.now lexer.old) result lexer.new }
     ensures err { OnErr result (lexer.new ≡ lexer.old) }
 {
@@ -334,4 +326,23 @@ pub fn parse_thread(
     let text = body(alloc, &mut tokens, names)?;
     *lexer = tokens.lexer();
     Ok(text)
+}
+
+/// Reads the body of a thread at the lexer's place, as long as tokens go on with it: a note, and statements with a note behind
+/// each. The lexer stands behind it then, and after a refusal where it stood.
+///
+/// A fault is the first one of the text: a token that cannot stand there (`Unexpected`), a name that is not declared
+/// (`UnknownName`), the token of a node, an assignment or a point that is one too many (`TooMany`), a `(`, `!` or `{` that opens
+/// one level too many (`TooDeep`), or a token that the lexer refuses.
+pub fn parse_thread(
+    alloc: Global,
+    lexer: &mut Lexer<'_>,
+    names: &Names,
+) -> Result<ThreadText, TextFault>
+    ensures found { IfOk result (λ t. IsThreadText names.now lexer.old (lines t) lexer.new) }
+    ensures only { (l : Lines) (to : Cursor) → IsThreadText names.now lexer.old l to → Answers l to result lexer.new }
+    ensures exact { ReadsAt (spec.thread_at names.now lexer.old) result lexer.new }
+    ensures err { OnErr result (lexer.new ≡ lexer.old) }
+{
+    read_thread(alloc, lexer, names)
 }
