@@ -5,8 +5,8 @@ mod Begins
 mod Sound
 mod Stopped
 mod Complete
-mod Whole
-mod SpellingTokens
-mod SpellingAtoms
-mod Spelling
-mod Again
+pub mod Whole
+pub mod SpellingTokens
+pub mod SpellingAtoms
+pub mod Spelling
+pub mod Again

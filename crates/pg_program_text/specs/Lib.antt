@@ -1,0 +1,6 @@
+pub mod Expr
+pub mod Keywords
+pub mod Stmt
+pub mod Thread
+pub mod Grammar
+pub mod Text

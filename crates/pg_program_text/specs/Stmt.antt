@@ -1,0 +1,179 @@
+-- How the parts of a statement are read, but for the blocks of branches and loops.
+use Rattle.std.specs.Prelude.{ℕ, zero, suc, ◌+◌, ◌==◌, Bool, true, false, if◌then◌else◌, List, [], ◌∷◌, ◌++◌, Option, Some, None, Result, Ok, Err, slice_get}
+use Rattle.pg_lex.specs.declared.token.Sign.{Sign}
+use Rattle.pg_lex.specs.declared.token.Sign.TheVariants as s
+use Rattle.pg_lex.specs.declared.token.TokenKind.{TokenKind}
+use Rattle.pg_lex.specs.declared.fault.TextFault.{TextFault}
+use Rattle.pg_lex.specs.declared.fault.TextFault.TheVariants.{At}
+use Rattle.pg_lex.specs.declared.fault.TextKind.{TextKind}
+use Rattle.pg_lex.specs.declared.fault.TextKind.TheVariants.{Unexpected, TooMany}
+use Rattle.pg_lex.specs.Lex.{Cursor, Lexeme}
+use Rattle.pg_program.specs.NameTable.{NameTable}
+use Rattle.pg_program.specs.Fault.{is_auxiliary}
+use Rattle.pg_program.specs.declared.name_table.NameRef.{NameRef}
+use Rattle.pg_program.specs.declared.name_table.NameRef.TheVariants as place
+use Rattle.pg_program.specs.declared.syntax.Expr.{Expr}
+use Rattle.pg_program.specs.declared.syntax.Cond.{Cond}
+use Rattle.pg_program.specs.declared.syntax.Act.{Act}
+use Rattle.pg_program.specs.declared.syntax.Act.TheVariants as act
+use Rattle.pg_program.specs.declared.syntax.AuxAssign.{AuxAssign}
+use Rattle.pg_assertion.specs.declared.atom.RawAtom.{RawAtom}
+use Rattle.pg_assertion.specs.Formula.{Plain}
+use Rattle.pg_assertion_text.specs.Input.{Input, Outcome, Parser, and_then, ◌>>=◌, ◌>>◌, pure, refuse, allowed, peek, next, node, expect, is_sign, named, location}
+use Rattle.pg_assertion_text.specs.Atoms.{raw_atom}
+use Rattle.pg_assertion_text.specs.Parsing.{formula_at}
+use Rattle.pg_program_text.specs.declared.stmt.TheConstants.{MAX_EXPR_NODES, MAX_EXPR_OPEN, MAX_ASSIGNMENTS}
+use Rattle.pg_program_text.specs.declared.keyword.Keyword.{Keyword}
+use Rattle.pg_program_text.specs.declared.keyword.Keyword.TheVariants as k
+use Rattle.pg_program_text.specs.Keywords.{keyword}
+use Rattle.pg_program_text.specs.Expr.{sum, factor_of}
+
+-- ---- phrases with limits of their own: the room of a thread is for its points
+
+abbrev pub with_room : {A : Type 0} → ℕ → Outcome A → Outcome A
+with_room room (Ok p) = Ok (p.0, record p.1 { room = room })
+with_room room (Err e) = Err e
+
+-- a phrase of at most n nodes
+abbrev pub within : {A : Type 0} → ℕ → Parser A → Parser A
+within n p = λ i. with_room i.room (p (record i { room = n }))
+
+unfoldable pub expression : NameTable → Parser Expr
+expression names = within MAX_EXPR_NODES (sum (factor_of names MAX_EXPR_OPEN))
+
+abbrev pub behind : {A : Type 0} → Input → Result (A × Cursor) TextFault → Outcome A
+behind i (Ok p) = Ok (p.0, record i { cursor = p.1 })
+behind i (Err e) = Err e
+
+unfoldable pub formula : NameTable → Parser (Plain RawAtom)
+formula names = λ i. behind i (formula_at raw_atom names i.cursor)
+
+-- `[ formula ]`, the note of a point
+abbrev pub opens_note : Lexeme → Parser (Unit {0})
+opens_note t = if is_sign s.OpenSquare t.kind then node t.place else refuse t.place Unexpected
+
+unfoldable pub opened : Parser (Unit {0})
+opened = do
+  t ← next
+  opens_note t
+
+unfoldable pub note : NameTable → Parser (Plain RawAtom)
+note names = do
+  f ← (opened >> formula names)
+  (expect s.CloseSquare >> pure f)
+
+-- ---- tests
+
+abbrev pub equal_at : Lexeme → Result Bool TextFault
+equal_at t = if is_sign s.Equal t.kind then Ok true else (if is_sign s.NotEqual t.kind then Ok false else Err (At t.place Unexpected))
+
+-- what was told, with nothing taken
+abbrev pub told : {A : Type 0} → Result A TextFault → Parser A
+told (Ok a) = pure a
+told (Err e) = λ i. Err e
+
+unfoldable pub test : NameTable → Parser Cond
+test names = do
+  a ← expression names
+  t ← next
+  equal ← told (equal_at t)
+  b ← expression names
+  pure (record { left = a; right = b; equal = equal })
+
+-- ---- acts
+
+-- `( x , expected , desired )`, behind `r := cas`
+unfoldable pub swap : NameTable → ℕ → Parser Act
+swap names r = do
+  x ← (expect s.Open >> location names)
+  a ← (expect s.Comma >> expression names)
+  b ← (expect s.Comma >> expression names)
+  (expect s.Close >> pure (act.Cas r x a b))
+
+-- a load where a location stands, and else an assignment
+abbrev pub load_or_assign : NameTable → ℕ → Result NameRef TextKind → Parser Act
+load_or_assign names r (Ok (place.Location x)) = next >> pure (act.Load r x)
+load_or_assign names r (Ok (place.Scalar q)) = expression names >>= (λ a. pure (act.Assign r a))
+load_or_assign names r (Err why) = expression names >>= (λ a. pure (act.Assign r a))
+
+abbrev pub assigned_by : NameTable → ℕ → Lexeme → Option Keyword → Parser Act
+assigned_by names r t (Some k.Cas) = next >> swap names r
+assigned_by names r t _ = load_or_assign names r (named names t)
+
+-- what stands behind `r :=`
+unfoldable pub assigned : NameTable → ℕ → Parser Act
+assigned names r = do
+  t ← peek
+  assigned_by names r t (keyword t)
+
+abbrev pub to_name : NameTable → NameRef → Parser Act
+to_name names (place.Scalar r) = expect s.Assign >> assigned names r
+to_name names (place.Location x) = do
+  a ← (expect s.Assign >> expression names)
+  pure (act.Store x a)
+
+abbrev pub named_act : NameTable → Lexeme → Parser Act
+named_act names t = do
+  r ← allowed t.place (named names t)
+  to_name names r
+
+abbrev pub act_by : NameTable → Lexeme → Option Keyword → Parser Act
+act_by names t (Some k.Mfence) = pure act.Mfence
+act_by names t (Some k.Sfence) = pure act.Sfence
+act_by names t (Some k.Flush) = location names >>= (λ x. pure (act.Flush x))
+act_by names t (Some k.Flushopt) = location names >>= (λ x. pure (act.Flushopt x))
+act_by names t _ = named_act names t
+
+unfoldable pub an_act : NameTable → Parser Act
+an_act names = do
+  t ← next
+  act_by names t (keyword t)
+
+-- ---- brackets
+
+abbrev pub auxiliary_in : NameTable → Result NameRef TextKind → Result ℕ TextKind
+auxiliary_in names (Ok (place.Scalar r)) = if is_auxiliary names r then Ok r else Err Unexpected
+auxiliary_in names (Ok (place.Location x)) = Err Unexpected
+auxiliary_in names (Err why) = Err why
+
+-- one more assignment may come
+abbrev pub one_more : ℕ → ℕ → Parser (Unit {0})
+one_more place zero = refuse place TooMany
+one_more place (suc n) = pure tt
+
+-- `a := expr`, where n assignments may come
+unfoldable pub assignment : NameTable → ℕ → Parser AuxAssign
+assignment names n = do
+  t ← next
+  r ← allowed t.place (auxiliary_in names (named names t))
+  a ← (one_more t.place n >> expect s.Assign >> expression names)
+  pure (record { target = r; expr = a })
+
+-- the bracket goes on with a comma, or ends
+abbrev pub goes_on_or_ends : Lexeme → Parser Bool
+goes_on_or_ends t = if is_sign s.Comma t.kind then pure true else (if is_sign s.Greater t.kind then pure false else refuse t.place Unexpected)
+
+unfoldable pub separator : Parser Bool
+separator = do
+  t ← next
+  goes_on_or_ends t
+
+-- at most n assignments, and one more turn to meet the one that is too many
+unfoldable pub assignments_on : NameTable → ℕ → List AuxAssign → Parser (List AuxAssign)
+assignments_on names zero found = do
+  a ← assignment names zero
+  pure (found ++ a ∷ [])
+assignments_on names (suc n) found = do
+  a ← assignment names (suc n)
+  more ← separator
+  if more then assignments_on names n (found ++ a ∷ []) else pure (found ++ a ∷ [])
+
+-- `< a := e, .. >`, or nothing
+abbrev pub bracket_by : NameTable → Bool → Parser (List AuxAssign)
+bracket_by names true = next >> assignments_on names MAX_ASSIGNMENTS []
+bracket_by names false = pure []
+
+unfoldable pub bracket : NameTable → Parser (List AuxAssign)
+bracket names = do
+  t ← peek
+  bracket_by names (is_sign s.Less t.kind)

@@ -1,0 +1,170 @@
+-- How statements with their blocks are read, and the body of a thread. A phrase with blocks gives its statements, and the
+-- notes of its points in the order of the text.
+use Rattle.std.specs.Prelude.{◌≡◌, ℕ, zero, suc, ◌+◌, Bool, true, false, if◌then◌else◌, List, [], ◌∷◌, ◌++◌, Option, Some, None, Result, Ok, Err, is_ok}
+use Rattle.pg_lex.specs.declared.token.Sign.TheVariants as s
+use Rattle.pg_lex.specs.declared.fault.TextFault.{TextFault}
+use Rattle.pg_lex.specs.declared.fault.TextFault.TheVariants.{At}
+use Rattle.pg_lex.specs.declared.fault.TextKind.TheVariants.{Unexpected, TooMany, TooDeep}
+use Rattle.pg_lex.specs.Lex.{Cursor, Lexeme}
+use Rattle.pg_program.specs.NameTable.{NameTable}
+use Rattle.pg_program.specs.declared.syntax.Stmt.{Stmt, roll-Stmt}
+use Rattle.pg_program.specs.declared.syntax.Cond.{Cond}
+use Rattle.pg_program.specs.declared.syntax.Act.{Act}
+use Rattle.pg_program.specs.declared.syntax.Act.TheVariants as act
+use Rattle.pg_assertion.specs.declared.atom.RawAtom.{RawAtom}
+use Rattle.pg_assertion.specs.Formula.{Plain}
+use Rattle.pg_assertion_text.specs.Input.{Input, Outcome, Parser, and_then, ◌>>=◌, ◌>>◌, pure, refuse, peek, next, expect, is_sign, named}
+use Rattle.pg_assertion_text.specs.Parsing.{placed}
+use Rattle.pg_program_text.specs.declared.thread.TheConstants.{MAX_POINTS, MAX_BLOCKS}
+use Rattle.pg_program_text.specs.declared.keyword.Keyword.{Keyword}
+use Rattle.pg_program_text.specs.declared.keyword.Keyword.TheVariants as k
+use Rattle.pg_program_text.specs.Keywords.{keyword}
+use Rattle.pg_program_text.specs.Stmt.{note, test, an_act, bracket}
+
+-- statements, and the notes of the points before them and within them
+pub record Lines : Type 0 where
+  pub stmts : List Stmt
+  pub notes : List (Plain RawAtom)
+
+-- a statement, and the notes of the points within its blocks
+pub record Noted : Type 0 where
+  pub stmt : Stmt
+  pub notes : List (Plain RawAtom)
+
+abbrev pub no_lines : Lines
+no_lines = record { stmts = []; notes = [] }
+
+-- a statement without a bracket
+abbrev pub bare : Act → Stmt
+bare a = roll-Stmt (record { act = a; aux = [] })
+
+-- one more note and the statement behind it
+abbrev pub with_line : Lines → Plain RawAtom → Noted → Lines
+with_line l f n = record { stmts = l.stmts ++ n.stmt ∷ []; notes = l.notes ++ f ∷ n.notes }
+
+-- `act bracket ;`
+unfoldable pub simple : NameTable → Parser Noted
+simple names = do
+  a ← an_act names
+  b ← bracket names
+  (expect s.Semicolon >> pure (record { stmt = roll-Stmt (record { act = a; aux = b }); notes = [] }))
+
+-- ---- blocks
+
+-- whether the block ends here, and its `}` is taken then
+abbrev pub ends_by : Bool → Parser Bool
+ends_by true = next >> pure true
+ends_by false = pure false
+
+unfoldable pub ends : Parser Bool
+ends = do
+  t ← peek
+  ends_by (is_sign s.CloseBrace t.kind)
+
+-- The lines of a block up to its `}`. Each has a note, which takes a point, so that there is at most one turn more than
+-- there are points to come.
+abbrev pub line_or_end : NameTable → Parser Noted → (Lines → Parser Lines) → Lines → Bool → Parser Lines
+line_or_end names stmt rest l true = pure l
+line_or_end names stmt rest l false = do
+  f ← note names
+  a ← stmt
+  rest (with_line l f a)
+
+unfoldable pub lines_on : NameTable → Parser Noted → ℕ → Lines → Parser Lines
+lines_on names stmt zero l = refuse 0 TooMany
+lines_on names stmt (suc n) l = do
+  end ← ends
+  line_or_end names stmt (lines_on names stmt n) l end
+
+unfoldable pub lines : NameTable → Parser Noted → Parser Lines
+lines names stmt = λ i. lines_on names stmt (i.room + 1) no_lines i
+
+-- `{ lines }`, if one more block may be open
+abbrev pub block_fault : Lexeme → TextFault
+block_fault t = At t.place (if is_sign s.OpenBrace t.kind then TooDeep else Unexpected)
+
+abbrev pub refuse_block : Lexeme → Parser Lines
+refuse_block t = λ i. Err (block_fault t)
+
+abbrev pub block : NameTable → Option (Parser Noted) → Parser Lines
+block names None = next >>= refuse_block
+block names (Some stmt) = expect s.OpenBrace >> lines names stmt
+
+-- ---- branches and loops
+
+-- `else` and a block, or no lines
+abbrev pub else_by : NameTable → Option (Parser Noted) → Option Keyword → Parser Lines
+else_by names below (Some k.Else) = next >> block names below
+else_by names below _ = pure no_lines
+
+unfoldable pub else_part : NameTable → Option (Parser Noted) → Parser Lines
+else_part names below = do
+  t ← peek
+  else_by names below (keyword t)
+
+-- a branch of its test and its two blocks
+abbrev pub joined : Cond → Lines → Lines → Noted
+joined c a b = record { stmt = bare (act.If c a.stmts b.stmts); notes = a.notes ++ b.notes }
+
+unfoldable pub branch : NameTable → Option (Parser Noted) → Parser Noted
+branch names below = do
+  c ← test names
+  a ← block names below
+  b ← else_part names below
+  pure (joined c a b)
+
+unfoldable pub repeat : NameTable → Option (Parser Noted) → Parser Noted
+repeat names below = do
+  c ← test names
+  a ← block names below
+  pure (record { stmt = bare (act.While c a.stmts); notes = a.notes })
+
+-- ---- statements
+
+abbrev pub statement_by : NameTable → Option (Parser Noted) → Option Keyword → Parser Noted
+statement_by names below (Some k.If) = next >> branch names below
+statement_by names below (Some k.While) = next >> repeat names below
+statement_by names below _ = simple names
+
+unfoldable pub statement_in : NameTable → Option (Parser Noted) → Parser Noted
+statement_in names below = do
+  t ← peek
+  statement_by names below (keyword t)
+
+-- with this many blocks that may be open
+unfoldable pub statement : NameTable → ℕ → Parser Noted
+statement names zero = statement_in names None
+statement names (suc n) = statement_in names (Some (statement names n))
+
+-- ---- the body of a thread: a note, and statements with a note behind each
+
+-- whether a statement begins with this token
+abbrev pub begins_by : NameTable → Lexeme → Option Keyword → Bool
+begins_by names t (Some k.Cas) = false
+begins_by names t (Some k.Else) = false
+begins_by names t (Some _) = true
+begins_by names t None = is_ok (named names t)
+
+unfoldable pub begins : NameTable → Lexeme → Bool
+begins names t = begins_by names t (keyword t)
+
+-- a note that a statement follows, or the last one
+abbrev pub line_or_last : NameTable → (Lines → Parser Lines) → Lines → Plain RawAtom → Bool → Parser Lines
+line_or_last names rest l f true = do
+  a ← statement names MAX_BLOCKS
+  rest (with_line l f a)
+line_or_last names rest l f false = pure (record { stmts = l.stmts; notes = l.notes ++ f ∷ [] })
+
+unfoldable pub body_on : NameTable → ℕ → Lines → Parser Lines
+body_on names zero l = refuse 0 TooMany
+body_on names (suc n) l = do
+  f ← note names
+  t ← peek
+  line_or_last names (body_on names n) l f (begins names t)
+
+abbrev pub body : NameTable → Parser Lines
+body names = λ i. body_on names (i.room + 1) no_lines i
+
+-- the body at a place and the place behind it, or the first fault
+unfoldable pub thread_at : NameTable → Cursor → Result (Lines × Cursor) TextFault
+thread_at names c = placed (body names (record { cursor = c; room = MAX_POINTS }))

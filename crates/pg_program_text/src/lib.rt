@@ -1,0 +1,19 @@
+//! Texts of threads: reading the body of a thread, with a note at each point, from a lexer.
+//!
+//! What the crate promises the layer above: `parse_thread` gives the body that the grammar (`specs/Text.antt`, over
+//! `specs/Grammar.antt`) has at the lexer's place, no more and no less, and the lexer stands behind it then. Where there is
+//! none, the answer is the first fault of the text, and the lexer stays where it stood. The law in `laws` says that a place
+//! of a text has one body at most. A `ThreadText` holds the statements, blocks nested in them, and apart from them the
+//! notes of the points in the order of the text.
+#![tactic(auto)]
+
+mod expr;
+mod keyword;
+pub mod laws;
+mod stmt;
+mod thread;
+#[cfg(test)]
+mod thread_tests;
+
+pub use stmt::{MAX_ASSIGNMENTS, MAX_EXPR_NODES, MAX_EXPR_OPEN};
+pub use thread::{MAX_BLOCKS, MAX_POINTS, ThreadText, parse_thread};
