@@ -1,3 +1,4 @@
+pub mod Follow
 pub mod Outlines
 pub mod Stores
 pub mod Valuations

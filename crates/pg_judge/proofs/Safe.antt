@@ -6,7 +6,8 @@ use Rattle.std.proofs.lemmas.Bool.{ne_eqb}
 use Rattle.std.proofs.lemmas.List.{length-set, get_or-set_same}
 use Rattle.std.proofs.lemmas.List.Elements.{All-nil, All-cons, All-get_or, All-weaker}
 use Rattle.pg_program.specs.Program.{IsProgram}
-use Rattle.pg_program.specs.Straight.{straight, initial}
+use Rattle.pg_program.specs.NameTable.{initial}
+use Rattle.pg_program.specs.Straight.{straight}
 use Rattle.pg_machine.specs.declared.event.Event.{Event}
 use Rattle.pg_machine.specs.Memory.{Memory, last_value}
 use Rattle.pg_machine.specs.State.{State, point_of, fresh}
@@ -108,16 +109,16 @@ start o p s of all h =
 
 -- ---- a step
 
-after_step : (o : Outline) (p : Path) (s : State) (k : ℕ) → IsOf o p → AllFollow p → Holds o p s → point_of s 1 ≡ k → k ≤ length p.stores → Holds o p (moved (stored s 1 (store p k)) 1)
+after_step : (o : Outline) (p : Path) (s : State) (k : ℕ) → IsOf o p → AllFollow p → Holds o p s → point_of s 1 ≡ k → k ≤ length p.stores → Holds o p (moved (stored s 1 (store p k)) 1 (k + 1))
 after_step o p s k of all h at to =
-    let next = moved (stored s 1 (store p k)) 1 in
+    let next = moved (stored s 1 (store p k)) 1 (k + 1) in
     let from : 1 ≤ k = let f = h.from in omega (arith, at, f) in
     let notes = of.path.one_note_a_point in
     let st = All-get_or (λ (t : ℕ × ℕ). (t.0 < length p.initial) × (t.1 < p.domain)) p.stores (k - 1) (0, 0) (omega (arith, from, to)) of.within in
     let long = ap length h.initial in
     let inside : (store p k).0 < length s.memory.initial = let q = st.0 in omega (arith, long, q) in
     let pointed = h.pointed in
-    let moves : point_of next 1 ≡ k + 1 = get_or-set_same s.points 0 (point_of s 1 + 1) 0 (omega (arith, pointed)) ∙ ap (λ (n : ℕ). n + 1) at in
+    let moves : point_of next 1 ≡ k + 1 = get_or-set_same s.points 0 (k + 1) 0 (omega (arith, pointed)) in
     let here : holds s (note p k) ≡ true = subst (λ (n : ℕ). holds s (note p n) ≡ true) at h.holds in
     let met : meets_all (last_values s.memory) (note p k) ≡ true =
     sym (holds-meets s (note p k) (note_lits p s k of.path h.initial from (omega (arith, notes, to)))) ∙ here in
@@ -125,7 +126,7 @@ after_step o p s k of all h at to =
     record {
       initial = h.initial;
       below = λ x lt. last_value-stays_below s.memory (store p k) p.domain x st.1 (h.below x lt);
-      pointed = length-set s.points 0 (point_of s 1 + 1) ∙ pointed;
+      pointed = length-set s.points 0 (k + 1) ∙ pointed;
       from = omega (arith, moves);
       to = omega (arith, moves, notes, to);
       holds = subst (λ (n : ℕ). holds next (note p n) ≡ true) (sym moves)
@@ -135,9 +136,9 @@ after_step o p s k of all h at to =
 
 step : (o : Outline) (p : Path) (s : State) (e : Event) (next : State) → IsOf o p → AllFollow p → Holds o p s → IsStep o.program s e next → Holds o p next
 step o p s e next of all h is =
-    let does = step_stores o.program p.stores s e next of.stores is in
-    let inside = does.inside in
     let from = h.from in
+    let does = step_stores o.program p.stores s e next of.stores from is in
+    let inside = does.inside in
     subst (λ (q : State). Holds o p q) (sym does.becomes) (after_step o p s (point_of s 1) of all h refl (omega (arith, inside, from)))
 
 -- ---- executions

@@ -1,26 +1,35 @@
 -- What an outline's program says of its stores and initial values.
 use Rattle.std.proofs.Common.{◌≡◌, ◌∙◌, sym, ap, refl, ℕ, zero, suc, ◌+◌, ◌<◌, ◌≤◌, List, [], ◌∷◌, ◌++◌, length, map, take, get_or, Option, Some, None, option_map, option_and_then, unwrap_or, slice_get, arith}
 use Rattle.pg_program.specs.declared.syntax.Stmt.{Stmt}
+use Rattle.pg_program.specs.Block.{block}
+use Rattle.pg_program.specs.Graph.{size, statements}
+use Rattle.pg_program.specs.Program.{ProgramTable, IsProgram}
 use Rattle.pg_program.specs.Straight.{store_of, stores_of, straight}
+use Rattle.pg_program.proofs.StraightLemmas.{straight-size, straight-statements}
+use Rattle.pg_program.proofs.ProgramLemmas.{thread_is}
 
 -- the list that is found, or the empty one
 abbrev pub found : {X : Type 0} → Option (List X) → List X
 found o = unwrap_or o []
 
-first_long : (o : Option (ℕ × ℕ)) (r : Option (List (ℕ × ℕ))) (n : ℕ) → length (found r) ≤ n → length (found (option_and_then (λ e. option_map (λ es. e ∷ es) r) o)) ≤ suc n
-first_long None r n h = omega arith
-first_long (Some e) None n h = omega arith
-first_long (Some e) (Some es) n h = omega arith
-
-stores_long : (ss : List Stmt) → length (found (stores_of ss)) ≤ length ss
-stores_long [] = omega arith
-stores_long (s ∷ ss) = first_long (store_of s) (stores_of ss) (length ss) (stores_long ss)
+long_of : (t : List Stmt) (o : Option (List (ℕ × ℕ))) → stores_of t ≡ o → length (found o) ≤ size (block t)
+long_of t None h = omega arith
+long_of t (Some es) h = let long = straight-size t es h in omega (arith, long)
 
 -- the first thread has a statement for each store
-pub thread_long : (ts : List (List Stmt)) → length (found (straight ts)) ≤ length (get_or ts 0 [])
+pub thread_long : (ts : List (List Stmt)) → length (found (straight ts)) ≤ size (block (get_or ts 0 []))
 thread_long [] = omega arith
-thread_long (t ∷ []) = stores_long t
+thread_long (t ∷ []) = long_of t (stores_of t) refl
 thread_long (t ∷ u ∷ ts) = omega arith
+
+-- a program of the first form has few stores
+pub few_stores : (p : ProgramTable) → IsProgram p → length (found (straight p.threads)) < 32
+few_stores p h =
+    let some = h.threads.some in
+    let thread = thread_is p h 1 (omega arith) (omega (arith, some)) in
+    let few = thread.few in
+    let long = thread_long p.threads in
+    omega (arith, few, long)
 
 first_found : (o : Option (ℕ × ℕ)) (r : Option (List (ℕ × ℕ))) → 0 < length (found (option_and_then (λ e. option_map (λ es. e ∷ es) r) o))
     → o ≡ Some (get_or (found (option_and_then (λ e. option_map (λ es. e ∷ es) r) o)) 0 (0, 0))
@@ -43,10 +52,14 @@ stores_found (t ∷ ss) (suc k) s h at =
     let later = later_found (store_of t) (stores_of ss) k h in
     stores_found ss k s later.0 at ∙ ap (λ (x : ℕ × ℕ). Some x) (sym later.1)
 
+found_at : (t : List Stmt) (o : Option (List (ℕ × ℕ))) → stores_of t ≡ o → (k : ℕ) (s : Stmt) → k < length (found o) → Some s ≡ slice_get (statements (block t)) k → Some s ≡ slice_get t k
+found_at t None h k s lt at = absurd (omega arith)
+found_at t (Some es) h k s lt at = at ∙ ap (λ (l : List Stmt). slice_get l k) (straight-statements t es h)
+
 -- the statement at a place is the store at that place
-pub store_found : (ts : List (List Stmt)) (k : ℕ) (s : Stmt) → k < length (found (straight ts)) → Some s ≡ slice_get (get_or ts 0 []) k → store_of s ≡ Some (get_or (found (straight ts)) k (0, 0))
+pub store_found : (ts : List (List Stmt)) (k : ℕ) (s : Stmt) → k < length (found (straight ts)) → Some s ≡ slice_get (statements (block (get_or ts 0 []))) k → store_of s ≡ Some (get_or (found (straight ts)) k (0, 0))
 store_found [] k s h at = absurd (omega arith)
-store_found (t ∷ []) k s h at = stores_found t k s h at
+store_found (t ∷ []) k s h at = stores_found t k s h (found_at t (stores_of t) refl k s h at)
 store_found (t ∷ u ∷ ts) k s h at = absurd (omega arith)
 
 -- a place within a list has an item

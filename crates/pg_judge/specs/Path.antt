@@ -1,7 +1,8 @@
 -- Outlines of the first form, their proof obligations, and when an obligation follows.
 use Rattle.std.specs.Prelude.{◌≡◌, ℕ, ◌+◌, ◌-◌, ◌*◌, ◌/◌, ◌%◌, ◌<◌, ◌≤◌, ◌==◌, Bool, true, not, List, [], length, map, All, slice_index, slice_index_or, slice_set, unwrap_or, if◌then◌else◌}
 use Rattle.std.specs.List.{list_all}
-use Rattle.pg_program.specs.Straight.{initial, straight}
+use Rattle.pg_program.specs.NameTable.{initial}
+use Rattle.pg_program.specs.Straight.{straight}
 use Rattle.pg_judge.specs.declared.outline.PathLit.{PathLit}
 use Rattle.pg_judge.specs.declared.outline.PathOutline.{PathOutline}
 use Rattle.pg_judge.specs.declared.obligation.PathKind.{PathKind}
@@ -34,6 +35,11 @@ pub record IsPath (p : Path) : Type 0 where
   pub one_note_a_point : length p.notes ≡ length p.stores + 1
   pub pre : All (IsLit p) p.pre
   pub notes : All (All (IsLit p)) p.notes
+
+-- the stores of an outline's program are at most 31, to declared locations
+pub record HasStores (o : PathOutline) : Type 0 where
+  pub few : length (path o).stores < 32
+  pub declared : All (λ s. s.0 < length (initial o.program.names)) (path o).stores
 
 -- a valuation gives each location one value of the domain
 pub record IsValuation (p : Path) (w : List ℕ) : Type 0 where

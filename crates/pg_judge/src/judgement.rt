@@ -1,8 +1,9 @@
 //! Judging an outline of the first form.
 
-ghost use Rattle.std.specs.Prelude.{◌≡◌, ℕ, ◌+◌, ◌*◌, ◌<◌, ◌≤◌, ◌↔◌, IsTrue, IfOk, length};
-ghost use Rattle.pg_program.specs.Straight.{initial};
-ghost use Rattle.pg_judge.specs.Path.{path, IsPath, count, Follows};
+ghost use Rattle.std.specs.Prelude.{◌≡◌, ℕ, ◌+◌, ◌*◌, ◌<◌, ◌≤◌, ◌↔◌, IsTrue, IsSome, IfOk, length};
+ghost use Rattle.pg_program.specs.NameTable.{initial};
+ghost use Rattle.pg_program.specs.Straight.{straight};
+ghost use Rattle.pg_judge.specs.Path.{path, IsPath, HasStores, count, Follows};
 ghost use Rattle.pg_judge.specs.Meaning.{outline};
 ghost use Rattle.pg_judge.specs.Judgement.{Judges, IsProvedIfAccepted, number_of};
 
@@ -21,22 +22,35 @@ pub enum PathJudgement {
     Rejected { i: u32 },
 }
 
-/// Judges every obligation, in their order, by trying all valuations, at most 4,096 for each.
+/// Judges every obligation, in their order, by trying all valuations, at most 4,096 for each. The program is one
+/// thread of stores of numbers.
 pub fn check_path(alloc: Global, o: &PathOutline) -> Result<PathJudgement, AllocError>
-    requires { IsPath (path o.now) }
+    requires form { IsSome (straight o.now.program.threads) }
+    requires path { IsPath (path o.now) }
     ensures judged { IfOk result (Judges (path o.now)) }
     ensures safe { IfOk result (λ j. IsProvedIfAccepted j (outline o.now)) }
     ensures few { IfOk result (λ j. number_of j ≤ 65) }
 {
     let mut values = initial_values(alloc, o.program.names())?;
+    Ok(judge(o, &mut values))
+}
+
+/// Judges every obligation. The values are the initial ones, and stay so.
+fn judge(o: &PathOutline, values: &mut [u32]) -> PathJudgement
+    requires path { IsPath (path o.now) }
+    requires stores { HasStores o.now }
+    requires initial { values.old ≡ initial o.now.program.names }
+    ensures judged { Judges (path o.now) result }
+    ensures few { number_of result ≤ 65 }
+{
     let statements = o.notes.len() as u32 - 1;
     let count = 3 + 2 * statements;
     for i in 1..count + 1 {
-        if !follows(o, i, &mut values) {
-            return Ok(PathJudgement::Rejected { i });
+        if !follows(o, i, values) {
+            return PathJudgement::Rejected { i };
         }
     }
-    Ok(PathJudgement::Accepted { count })
+    PathJudgement::Accepted { count }
 }
 
 /// The initial value of each location.
@@ -53,6 +67,7 @@ fn initial_values(alloc: Global, names: &Names) -> Result<Vec<u32>, AllocError>
 /// Whether an obligation follows. The values are the initial ones, and stay so.
 fn follows(o: &PathOutline, i: u32, values: &mut [u32]) -> bool
     requires path { IsPath (path o.now) }
+    requires stores { HasStores o.now }
     requires number { (1 ≤ i) × (i ≤ count (path o.now)) }
     requires initial { values.old ≡ initial o.now.program.names }
     ensures kept { values.new ≡ values.old }

@@ -1,71 +1,49 @@
--- The numbers of a well-formed program are below its domain's size.
-use Rattle.std.proofs.Common.{◌≡◌, ℕ, zero, suc, ◌<◌, Bool, true, false, cond, ◌&&◌, nat_le, List, [], ◌∷◌, ◌++◌, length, get_or, Option, None, Some, option_map, refl, arith}
+-- A store of a well-formed program is of a value of the domain, to a declared location.
+use Rattle.std.proofs.Common.{◌≡◌, ℕ, zero, suc, ◌+◌, ◌-◌, ◌<◌, ◌≤◌, List, [], ◌∷◌, length, get_or, Some, slice_get, refl, ap, ap₂, subst, ◌∙◌, arith}
 use Rattle.std.specs.List.{All}
-use Rattle.std.proofs.lemmas.Bool.{leb-true, leb-false}
 use Rattle.std.proofs.lemmas.List.{length-map}
-use Rattle.std.proofs.lemmas.List.Elements.{All-get_or, All-from_get_or}
-use Rattle.pg_program.specs.Program.{ProgramTable, IsProgram}
-use Rattle.pg_program.specs.Straight.{initial, stored, first_outside, or_fault, unknown_owner, is_domain}
-use Rattle.pg_program.specs.declared.graph.ProgramFault.{ProgramFault}
-use Rattle.pg_program.specs.declared.graph.ProgramFault.TheVariants.{DomainSize, UnknownThread, ValueOutOfDomain}
+use Rattle.std.proofs.lemmas.List.Elements.{All-head, All-from_get_or}
+use Rattle.pg_program.specs.declared.syntax.Stmt.{Stmt}
+use Rattle.pg_program.specs.NameTable.{initial}
+use Rattle.pg_program.specs.Program.{ProgramTable, IsProgram, thread_of, stmt_at}
+use Rattle.pg_program.specs.Straight.{store_of, stores_of, straight}
+use Rattle.pg_program.proofs.ProgramLemmas.{numbers_of_stmt, stmt_of}
+use Rattle.pg_program.proofs.StraightLemmas.{is_stored, stored-numbers, has_first, straight-statements}
+use Rattle.pg_machine.proofs.Steps.{one_thread}
 
-no_fault : (b : Bool) (u v : Option ℕ) (d : ℕ) → cond b (or_fault (option_map UnknownThread u) (option_map ValueOutOfDomain v)) (Some (DomainSize d)) ≡ None → v ≡ None
-no_fault true None None d e = refl
-no_fault true None (Some x) d e = cc
-no_fault true (Some x) v d e = cc
-no_fault false u v d e = cc
-
-is_true : (b : Bool) (o : Option ProgramFault) (d : ℕ) → cond b o (Some (DomainSize d)) ≡ None → b ≡ true
-is_true true o d e = refl
-is_true false o d e = cc
-
-below_size : (b : Bool) (d : ℕ) → nat_le 2 d ≡ b → (b && nat_le d 4) ≡ true → 0 < d
-below_size true d is e = let q = leb-true 2 d is in omega (arith, q)
-below_size false d is e = cc
-
--- a domain is not empty
-pub has_values : (p : ProgramTable) → IsProgram p → 0 < p.names.domain
-has_values p h =
-    let names = p.names in
-    let faults = or_fault (option_map UnknownThread (unknown_owner 1 names.scalars)) (option_map ValueOutOfDomain (first_outside names.domain (initial names ++ stored h.stores))) in
-    below_size (nat_le 2 names.domain) names.domain refl (is_true (is_domain names.domain) faults names.domain h.faultless)
-
-none_later : (b : Bool) (v : ℕ) (r : Option ℕ) → cond b (Some v) r ≡ None → r ≡ None
-none_later true v r e = cc
-none_later false v r e = e
-
-is_below : (b : Bool) (d v : ℕ) (r : Option ℕ) → nat_le d v ≡ b → cond b (Some v) r ≡ None → v < d
-is_below true d v r is e = cc
-is_below false d v r is e = leb-false d v is
-
-none_behind : (d : ℕ) (vs ws : List ℕ) → first_outside d (vs ++ ws) ≡ None → first_outside d ws ≡ None
-none_behind d [] ws e = e
-none_behind d (v ∷ vs) ws e = none_behind d vs ws (none_later (nat_le d v) v (first_outside d (vs ++ ws)) e)
-
-front_below : (d : ℕ) (vs ws : List ℕ) → first_outside d (vs ++ ws) ≡ None → (i : ℕ) → i < length vs → get_or vs i 0 < d
-front_below d [] ws e i lt = absurd (omega arith)
-front_below d (v ∷ vs) ws e zero lt = is_below (nat_le d v) d v (first_outside d (vs ++ ws)) refl e
-front_below d (v ∷ vs) ws e (suc i) lt = front_below d vs ws (none_later (nat_le d v) v (first_outside d (vs ++ ws)) e) i (omega arith)
-
-each_below : (d : ℕ) (es : List (ℕ × ℕ)) → first_outside d (stored es) ≡ None → (i : ℕ) → i < length es → (get_or es i (0, 0)).1 < d
-each_below d [] e i lt = absurd (omega arith)
-each_below d (s ∷ es) e zero lt = is_below (nat_le d s.1) d s.1 (first_outside d (stored es)) refl e
-each_below d (s ∷ es) e (suc i) lt = each_below d es (none_later (nat_le d s.1) s.1 (first_outside d (stored es)) e) i (omega arith)
-
-none_outside : (p : ProgramTable) (h : IsProgram p) → first_outside p.names.domain (initial p.names ++ stored h.stores) ≡ None
-none_outside p h =
-    no_fault (is_domain p.names.domain) (unknown_owner 1 p.names.scalars) (first_outside p.names.domain (initial p.names ++ stored h.stores)) p.names.domain h.faultless
-
--- each initial value is below the domain's size
-pub initial_below : (p : ProgramTable) → IsProgram p → All (λ v. v < p.names.domain) (initial p.names)
-initial_below p h =
-    All-from_get_or (λ (v : ℕ). v < p.names.domain) (initial p.names) 0
-    (front_below p.names.domain (initial p.names) (stored h.stores) (none_outside p h))
-
--- each store is of a value below the domain's size, to a location that is declared
-pub stores_within : (p : ProgramTable) (h : IsProgram p) → All (λ s. (s.0 < length (initial p.names)) × (s.1 < p.names.domain)) h.stores
-stores_within p h =
+pub store_within : (p : ProgramTable) → IsProgram p → (t k : ℕ) (s : Stmt) (st : ℕ × ℕ) → 1 ≤ t → t ≤ length p.threads → stmt_at p t k ≡ Some s → store_of s ≡ Some st
+    → (st.0 < length (initial p.names)) × (st.1 < p.names.domain)
+store_within p h t k s st low high at is =
+    let parts = is_stored s st is in
+    let declared = All-head (λ (x : ℕ). x < length p.names.locations) st.0 [] (subst (All (λ (x : ℕ). x < length p.names.locations)) parts.locations (stmt_of p h t k s low high at).locations) in
     let long = length-map p.names.locations (λ (e : List ℕ × ℕ). e.1) in
-    All-from_get_or (λ (s : ℕ × ℕ). (s.0 < length (initial p.names)) × (s.1 < p.names.domain)) h.stores (0, 0) (λ i lt.
-    let q = All-get_or (λ (s : ℕ × ℕ). s.0 < length p.names.locations) h.stores i (0, 0) lt h.declared in
-    (omega (arith, q, long), each_below p.names.domain h.stores (none_behind p.names.domain (initial p.names) (stored h.stores) (none_outside p h)) i lt))
+    (omega (arith, declared, long),
+    All-head (λ (v : ℕ). v < p.names.domain) st.1 [] (subst (All (λ (v : ℕ). v < p.names.domain)) (stored-numbers s st parts) (numbers_of_stmt p h t k s low high at)))
+
+-- the statement of a store of one thread of stores
+record HasStore (ss : List Stmt) (i : ℕ) (st : ℕ × ℕ) : Type 0 where
+  pub stmt : Stmt
+  pub at : slice_get ss i ≡ Some stmt
+  pub is : store_of stmt ≡ Some st
+
+has_store : (ss : List Stmt) (es : List (ℕ × ℕ)) (i : ℕ) → stores_of ss ≡ Some es → i < length es → HasStore ss i (get_or es i (0, 0))
+has_store [] es i are lt = let none : [] ≡ es = cc in let long = ap length none in absurd (omega (arith, long, lt))
+has_store (s ∷ ss) es zero are lt =
+    let f = has_first (store_of s) (stores_of ss) es are in
+    record { stmt = s; at = refl; is = f.is_first ∙ ap (λ (l : List (ℕ × ℕ)). Some (get_or l 0 (0, 0))) f.all }
+has_store (s ∷ ss) es (suc i) are lt =
+    let f = has_first (store_of s) (stores_of ss) es are in
+    let long = ap length f.all in
+    let rest = has_store ss f.others i f.are_others (omega (arith, long, lt)) in
+    record { stmt = rest.stmt; at = rest.at; is = rest.is ∙ ap (λ (l : List (ℕ × ℕ)). Some (get_or l (suc i) (0, 0))) f.all }
+
+-- each store of one thread of stores is of a value of the domain, to a declared location
+pub stores_within : (p : ProgramTable) → IsProgram p → (stores : List (ℕ × ℕ)) → straight p.threads ≡ Some stores → All (λ s. (s.0 < length (initial p.names)) × (s.1 < p.names.domain)) stores
+stores_within p h stores are =
+    let only = one_thread p.threads stores are in
+    let one = only.0 in
+    let ss = thread_of p 1 in
+    All-from_get_or (λ (s : ℕ × ℕ). (s.0 < length (initial p.names)) × (s.1 < p.names.domain)) stores (0, 0) (λ i lt.
+    let found = has_store ss stores i only.1 lt in
+    let at : stmt_at p 1 (i + 1) ≡ Some found.stmt = ap₂ (λ (l : List Stmt) (n : ℕ). slice_get l n) (straight-statements ss stores only.1) (let q : i + 1 - 1 ≡ i = omega arith in q) ∙ found.at in
+    store_within p h 1 (i + 1) found.stmt (get_or stores i (0, 0)) (omega arith) (omega (arith, one)) at found.is)

@@ -6,16 +6,16 @@ use Rattle.std.proofs.lemmas.Bool.{cases_eq}
 use Rattle.std.proofs.lemmas.List.{length-map, length-replicate, get_or-replicate, length-set, get_or-set_same, get_or-set_other}
 use Rattle.std.proofs.lemmas.List.Elements.{All-nil, All-cons, All-get_or, All-weaker, All-set, All-push, All-replicate}
 use Rattle.pg_program.specs.declared.syntax.Stmt.{Stmt}
-use Rattle.pg_program.specs.Program.{ProgramTable, IsProgram, thread_of}
-use Rattle.pg_program.specs.Straight.{initial}
-use Rattle.pg_program.proofs.StraightLemmas.{length-thread}
+use Rattle.pg_program.specs.NameTable.{initial}
+use Rattle.pg_program.specs.Program.{ProgramTable, IsProgram, points}
+use Rattle.pg_program.proofs.ProgramLemmas.{has_values, initial_inside}
 use Rattle.pg_machine.specs.declared.event.Event.{Event}
 use Rattle.pg_machine.specs.Memory.{Memory, is_at}
 use Rattle.pg_machine.specs.State.{Views, State, greatest, maxcoh, point_of, AreViews, IsWellFormed, fresh, fresh_views}
 use Rattle.pg_machine.specs.Step.{views_of, message_appended, store_seen, stored, moved, IsStep}
 use Rattle.pg_machine.proofs.Appended.{same_number, is_to-front, is_to-new, length-appended}
-use Rattle.pg_machine.proofs.Steps.{one_thread, step_stores}
-use Rattle.pg_machine.proofs.InDomain.{has_values, initial_below, stores_within}
+use Rattle.pg_machine.proofs.Steps.{takes_row, row_within}
+use Rattle.pg_machine.proofs.InDomain.{store_within}
 
 -- ---- the fresh state
 
@@ -49,7 +49,7 @@ fresh_is_well_formed p h =
     record {
       memory = record {
         initial = refl;
-        values = initial_below p h;
+        values = initial_inside p h;
         messages = All-nil (λ (s : ℕ × ℕ). (s.0 < length (initial names)) × (s.1 < names.domain));
       };
       threads = length-map p.threads (λ (t : List Stmt). fresh_views n);
@@ -129,39 +129,45 @@ stored_views m st w inside h =
       committed = All-weaker (λ (p : ℕ). p ≤ maxcoh w) (λ (p : ℕ). p ≤ maxcoh (store_seen w st.0 (n + 1))) (λ p le. omega (arith, le, grows)) w.vpc h.committed;
     }
 
-store_keeps : (p : ProgramTable) (s : State) (st : ℕ × ℕ) → length p.threads ≡ 1 → IsWellFormed p s → st.0 < length (initial p.names) → st.1 < p.names.domain → point_of s 1 ≤ length (thread_of p 1) → IsWellFormed p (moved (stored s 1 st) 1)
-store_keeps p s st one h inside below at =
-    let next = moved (stored s 1 st) 1 in
+store_keeps : (p : ProgramTable) (s : State) (t n : ℕ) (st : ℕ × ℕ) → 1 ≤ t → t ≤ length p.threads → IsWellFormed p s → st.0 < length (initial p.names) → st.1 < p.names.domain → (1 ≤ n) × (n ≤ points p t)
+    → IsWellFormed p (moved (stored s t st) t n)
+store_keeps p s t n st low high h inside below at =
+    let next = moved (stored s t st) t n in
     let m = s.memory in
     let same = ap length h.memory.initial in
     let within : st.0 < length m.initial = omega (arith, same, inside) in
     let threads = h.threads in
     let pointed = h.pointed in
-    let moves : point_of next 1 ≡ point_of s 1 + 1 = get_or-set_same s.points 0 (point_of s 1 + 1) 0 (omega (arith, pointed, one)) in
-    let mine = All-get_or (λ (w : Views). AreViews m w) s.views 0 (record { coh = []; vrn = 0; vpr = 0; vpa = []; vpc = [] }) (omega (arith, threads, one)) h.views in
+    let moves : point_of next t ≡ n = get_or-set_same s.points (t - 1) n 0 (omega (arith, pointed, low, high)) in
+    let mine = All-get_or (λ (w : Views). AreViews m w) s.views (t - 1) (record { coh = []; vrn = 0; vpr = 0; vpa = []; vpc = [] }) (omega (arith, threads, low, high)) h.views in
     record {
       memory = record {
         initial = h.memory.initial;
         values = h.memory.values;
-        messages = All-push (λ (t : ℕ × ℕ). (t.0 < length m.initial) × (t.1 < p.names.domain)) m.messages st h.memory.messages (within, below);
+        messages = All-push (λ (x : ℕ × ℕ). (x.0 < length m.initial) × (x.1 < p.names.domain)) m.messages st h.memory.messages (within, below);
       };
-      threads = length-set s.views 0 (store_seen (views_of s 1) st.0 (length m.messages + 1)) ∙ threads;
-      views = All-set (AreViews (message_appended m st)) s.views 0 (store_seen (views_of s 1) st.0 (length m.messages + 1))
-          (stored_views m st (views_of s 1) within mine)
+      threads = length-set s.views (t - 1) (store_seen (views_of s t) st.0 (length m.messages + 1)) ∙ threads;
+      views = All-set (AreViews (message_appended m st)) s.views (t - 1) (store_seen (views_of s t) st.0 (length m.messages + 1))
+          (stored_views m st (views_of s t) within mine)
           (All-weaker (AreViews m) (AreViews (message_appended m st)) (views_stay m st) s.views h.views);
       scalars = h.scalars;
-      pointed = length-set s.points 0 (point_of s 1 + 1) ∙ pointed;
-      points = λ t low high.
-          let first : t ≡ 1 = omega (arith, one, low, high) in
-          subst (λ (k : ℕ). (1 ≤ point_of next k) × (point_of next k ≤ length (thread_of p k) + 1)) (sym first) (omega (arith, moves), omega (arith, moves, at));
+      pointed = length-set s.points (t - 1) n ∙ pointed;
+      points = λ u from to. elim (cases_eq u t) [
+        | inl e ↦ subst (λ (k : ℕ). (1 ≤ point_of next k) × (point_of next k ≤ points p k)) (sym e)
+            (let low = at.0 in let high = at.1 in (omega (arith, moves, low), omega (arith, moves, high)))
+        | inr ne ↦
+            let apart : (u - 1 ≡ t - 1) → ⊥ = λ q. ne (let k : u ≡ t = omega (arith, from, low, q) in k) in
+            let stays : point_of next u ≡ point_of s u = get_or-set_other s.points (t - 1) (u - 1) n 0 apart in
+            subst (λ (k : ℕ). (1 ≤ k) × (k ≤ points p u)) (sym stays) (h.points u from to)
+      ];
     }
 
 pub step_keeps : (p : ProgramTable) (s : State) (e : Event) (next : State) → IsProgram p → IsWellFormed p s → IsStep p s e next → IsWellFormed p next
 step_keeps p s e next built h is =
-    let one = (one_thread p.threads built.stores built.are).0 in
-    let long = length-thread p.threads built.stores 0 [] built.are (omega (arith, one)) in
-    let does = step_stores p built.stores s e next built.are is in
-    let inside = does.inside in
-    let within = All-get_or (λ (t : ℕ × ℕ). (t.0 < length (initial p.names)) × (t.1 < p.names.domain)) built.stores (point_of s 1 - 1) (0, 0) inside (stores_within p built) in
-    subst (λ (q : State). IsWellFormed p q) (sym does.becomes)
-    (store_keeps p s (get_or built.stores (point_of s 1 - 1) (0, 0)) one h within.0 within.1 (omega (arith, inside, long)))
+    let t = e.thread in
+    let k = point_of s t in
+    let row = takes_row p s e next is in
+    let within = store_within p built t k row.stmt row.st is.thread.0 is.thread.1 row.stands row.is in
+    let from = (h.points t is.thread.0 is.thread.1).0 in
+    subst (λ (q : State). IsWellFormed p q) (sym row.becomes)
+    (store_keeps p s t row.target row.st is.thread.0 is.thread.1 h within.0 within.1 (row_within p t k row.target from row.leads))

@@ -1,8 +1,7 @@
 -- States of the machine, and the well-formed ones.
 use Rattle.std.specs.Prelude.{◌≡◌, ℕ, ◌-◌, ◌+◌, ◌<◌, ◌≤◌, max, true, List, [], ◌∷◌, length, map, All, replicate, slice_index}
-use Rattle.pg_program.specs.NameTable.{NameTable}
-use Rattle.pg_program.specs.Straight.{initial}
-use Rattle.pg_program.specs.Program.{ProgramTable, IsProgram, thread_of}
+use Rattle.pg_program.specs.NameTable.{NameTable, initial}
+use Rattle.pg_program.specs.Program.{ProgramTable, IsProgram, points as last_point}
 use Rattle.pg_machine.specs.Memory.{Memory, is_at}
 
 -- The views of a thread, which are positions: for each location its coherence view, the read view, the ready
@@ -66,7 +65,7 @@ pub record IsWellFormed (p : ProgramTable) (s : State) : Type 0 where
   pub views : All (AreViews s.memory) s.views
   pub scalars : (length s.scalars ≡ length p.names.scalars) × All (λ v. v < p.names.domain) s.scalars
   pub pointed : length s.points ≡ length p.threads
-  pub points : (t : ℕ) → 1 ≤ t → t ≤ length p.threads → (1 ≤ point_of s t) × (point_of s t ≤ length (thread_of p t) + 1)
+  pub points : (t : ℕ) → 1 ≤ t → t ≤ length p.threads → (1 ≤ point_of s t) × (point_of s t ≤ last_point p t)
 
 -- the fresh state: no message, all positions and scalars 0, and each thread at its first point
 abbrev pub fresh_views : ℕ → Views

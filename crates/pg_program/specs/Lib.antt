@@ -1,4 +1,10 @@
 pub mod NameTable
+pub mod Block
+pub mod Graph
+pub mod Expr
+pub mod Fault
+pub mod Clause
 pub mod Program
 pub mod Straight
 pub mod Outcome
+pub mod Laws

@@ -20,6 +20,10 @@ pub record NameTable : Type 0 where
 abbrev pub by_bytes : {V : Type 0} → List (String Global × V) → List (List ℕ × V)
 by_bytes entries = map (λ e. (string_bytes e.0, e.1)) entries
 
+-- the initial values, in the order of declaration
+abbrev pub initial : NameTable → List ℕ
+initial t = map (λ e. e.1) t.locations
+
 -- the table without names
 abbrev pub empty_table : ℕ → NameTable
 empty_table domain = record { domain = domain; locations = []; scalars = [] }

@@ -1,19 +1,17 @@
 -- What building a program answers.
-use Rattle.std.specs.Prelude.{◌≡◌, ℕ, ◌<◌, List, length, All, Some, None, Result, MatchResult}
+use Rattle.std.specs.Prelude.{◌≡◌, List, Option, Some, None, Result, Ok, Err, IfSome}
 use Rattle.pg_program.specs.declared.syntax.Stmt.{Stmt}
 use Rattle.pg_program.specs.declared.graph.Program.{Program}
-use Rattle.pg_program.specs.declared.graph.ProgramFault.{ProgramFault}
+use Rattle.pg_program.specs.declared.fault.ProgramFault.{ProgramFault}
 use Rattle.pg_program.specs.NameTable.{NameTable}
-use Rattle.pg_program.specs.Straight.{straight, first_fault}
+use Rattle.pg_program.specs.Fault.{Fault, told, first_fault}
 
--- the threads are one thread of at most 31 stores of numbers to declared locations
-pub record CanBuild (names : NameTable) (threads : List (List Stmt)) : Type 0 where
-  pub stores : List (ℕ × ℕ)
-  pub are : straight threads ≡ Some stores
-  pub few : length stores < 32
-  pub declared : All (λ s. s.0 < length names.locations) stores
+-- there is no such fault, or it is the one that is told; want of memory tells none
+abbrev pub Finds : {T : Type 0} → Option Fault → Result T ProgramFault → Type 0
+Finds f (Ok x) = f ≡ None
+Finds f (Err e) = IfSome (told e) (λ g. f ≡ Some g)
 
 -- the program of the names and the threads, where they have no fault, and else their first fault
 abbrev pub Builds : NameTable → List (List Stmt) → Result Program ProgramFault → Type 0
-Builds names threads r = (stores : List (ℕ × ℕ)) → straight threads ≡ Some stores
-    → MatchResult r (λ p. (p ≡ record { names = names; threads = threads }) × (first_fault names stores ≡ None)) (λ e. first_fault names stores ≡ Some e)
+Builds names threads (Ok p) = (p ≡ record { names = names; threads = threads }) × (first_fault names threads ≡ None)
+Builds names threads (Err e) = IfSome (told e) (λ f. first_fault names threads ≡ Some f)

@@ -1,15 +1,12 @@
--- Programs of one thread whose statements are stores of numbers, the ones that can be built so far.
-use Rattle.std.specs.Prelude.{ℕ, Bool, ◌&&◌, List, [], ◌∷◌, ◌++◌, map, Option, Some, None, option_map, option_and_then, if◌then◌else◌, nat_le}
+-- Programs of one thread whose statements are stores of numbers.
+use Rattle.std.specs.Prelude.{ℕ, List, [], ◌∷◌, ◌++◌, map, Option, Some, None, option_map, option_and_then}
 use Rattle.pg_program.specs.declared.syntax.Expr.{Expr, out-Expr}
 use Rattle.pg_program.specs.declared.syntax.Expr.TheOpen.{Expr-F, Value}
 use Rattle.pg_program.specs.declared.syntax.Act.{Act, out-Act}
 use Rattle.pg_program.specs.declared.syntax.Act.TheOpen.{Act-F, Store}
 use Rattle.pg_program.specs.declared.syntax.Stmt.{Stmt, out-Stmt}
-use Rattle.pg_program.specs.declared.name_table.ScalarKind.{ScalarKind}
-use Rattle.pg_program.specs.declared.name_table.ScalarKind.TheVariants.{Register, Auxiliary}
-use Rattle.pg_program.specs.declared.graph.ProgramFault.{ProgramFault}
-use Rattle.pg_program.specs.declared.graph.ProgramFault.TheVariants.{DomainSize, UnknownThread, ValueOutOfDomain}
-use Rattle.pg_program.specs.NameTable.{NameTable}
+use Rattle.pg_program.specs.NameTable.{NameTable, initial}
+use Rattle.pg_program.specs.Fault.{Fault, unknown_thread, value_out_of_domain, first_of, domain_fault, unknown_owner, first_outside}
 
 -- the number that an expression is, if it is one
 abbrev pub number_in : Expr-F Expr → Option ℕ
@@ -41,37 +38,14 @@ straight [] = None
 straight (t ∷ []) = stores_of t
 straight (t ∷ u ∷ ts) = None
 
--- a domain has two to four values
-abbrev pub is_domain : ℕ → Bool
-is_domain d = nat_le 2 d && nat_le d 4
-
--- the first owner of a register that is none of the n threads
-abbrev pub unknown_owner : ℕ → List (List ℕ × ScalarKind) → Option ℕ
-unknown_owner n [] = None
-unknown_owner n ((name, Register owner) ∷ rest) = if nat_le 1 owner && nat_le owner n then unknown_owner n rest else Some owner
-unknown_owner n ((name, Auxiliary) ∷ rest) = unknown_owner n rest
-
--- the first number that is not below d
-abbrev pub first_outside : ℕ → List ℕ → Option ℕ
-first_outside d [] = None
-first_outside d (v ∷ vs) = if nat_le d v then Some v else first_outside d vs
-
--- the initial values, in the order of declaration
-abbrev pub initial : NameTable → List ℕ
-initial names = map (λ e. e.1) names.locations
-
 -- the stored numbers, in the order of the statements
 abbrev pub stored : List (ℕ × ℕ) → List ℕ
 stored stores = map (λ s. s.1) stores
 
--- the earlier of two faults, if there is one
-abbrev pub or_fault : Option ProgramFault → Option ProgramFault → Option ProgramFault
-or_fault (Some f) g = Some f
-or_fault None g = g
-
--- the first fault: of the domain, then of the registers' owners, then of the initial values, then of the stored numbers
-abbrev pub first_fault : NameTable → List (ℕ × ℕ) → Option ProgramFault
-first_fault names stores =
-    if is_domain names.domain
-    then or_fault (option_map UnknownThread (unknown_owner 1 names.scalars)) (option_map ValueOutOfDomain (first_outside names.domain (initial names ++ stored stores)))
-    else Some (DomainSize names.domain)
+-- the first fault of such a thread: of the domain, then of the registers' owners, then of the initial values, then of the
+-- stored numbers
+abbrev pub straight_fault : NameTable → List (ℕ × ℕ) → Option Fault
+straight_fault names stores =
+    first_of (domain_fault names.domain)
+    (first_of (option_map unknown_thread (unknown_owner 1 names.scalars))
+    (option_map value_out_of_domain (first_outside names.domain (initial names ++ stored stores))))

@@ -1,56 +1,38 @@
 //! Programs that were built: well-formed names and threads, with a point before each statement and one at the
-//! end of each thread.
+//! end of each thread, and the steps between the points.
 
-ghost use Rattle.std.specs.Prelude.{◌≡◌, ℕ, ◌+◌, ◌++◌, ◌<◌, ◌≤◌, List, length, map, IsSome, IfSome, MatchResult, IfOk, MatchOption, Some, None, true, false};
+ghost use Rattle.std.specs.Prelude.{◌≡◌, ℕ, ◌+◌, ◌++◌, ◌∷◌, [], ◌<◌, ◌≤◌, List, length, map, slice_index_or, All, OnOk, IfOk};
 ghost use Rattle.std.specs.Option.{option_copied};
-ghost use Rattle.std.specs.List.{filter_map};
-ghost use Rattle.pg_program.specs.Straight.{store_of, stores_of, straight, is_domain, unknown_owner, first_outside, first_fault, stored, initial};
+ghost use Rattle.pg_program.specs.Straight.{store_of};
+ghost use Rattle.pg_program.specs.Block.{block};
+ghost use Rattle.pg_program.specs.Graph.{size, into, steps, own_steps, is_test, is_loop, graphs};
 
-use crate::name_table::{NameKind, Names};
+use crate::block::{count, nth, opened};
+use crate::clause::check;
+use crate::fault::ProgramFault;
+use crate::name_table::Names;
+use crate::point::{Branch, PointId, Step};
 use crate::syntax::{Act, Expr, Stmt};
+use smallvec::SmallVec;
+use std::alloc::{AllocError, Global};
 use std::marker::Model;
-use thiserror::Error;
 
-/// A point of a thread, both numbered from 1.
-#[derive(Clone, Copy, Debug, PartialEq, Eq)]
-pub struct PointId {
-    pub thread: u8,
-    pub point: u8,
-}
-
-/// Why no program is built of names and threads. Of several faults the one that stands first here is given, and
-/// of one kind the first in the order of the text, where the initial values stand before the statements.
-#[derive(Debug, Drop, Error)]
-pub enum ProgramFault {
-    #[error("the domain has {0} values, and not 2 to 4")]
-    DomainSize(u32),
-    #[error("there is no thread {0}")]
-    UnknownThread(u32),
-    #[error("register {0} belongs to another thread")]
-    ForeignRegister(String),
-    #[error("auxiliary {0} stands outside a bracket")]
-    AuxInProgram(String),
-    #[error("auxiliary {0} is assigned twice in a bracket")]
-    AuxTwice(String),
-    #[error("the value {0} is not in the domain")]
-    ValueOutOfDomain(u32),
-    #[error("an expression or a test reads more than four names")]
-    ExpressionNames(PointId),
-    #[error("out of memory")]
-    NoMemory,
-}
+/// The steps from a point, at most two.
+type Steps = SmallVec<Step, 2>;
 
 /// A well-formed program.
 #[derive(Debug, Drop)]
 pub struct Program {
     names: Names,
     threads: Vec<Vec<Stmt>>,
+    graph: Vec<Vec<Steps>>,
 }
 
 impl Model for Program {
-    ghost use Rattle.std.specs.Prelude.{map};
+    ghost use Rattle.std.specs.Prelude.{map, ◌≡◌};
     ghost use Rattle.std.specs.Coded.{codes};
     ghost use Rattle.pg_program.specs.contracts.syntax.Stmt as stmt;
+    ghost use Rattle.pg_program.specs.Graph.{graphs};
     ghost use Rattle.pg_program.specs.Program.{ProgramTable, IsProgram};
 
     ghost Value = { ProgramTable };
@@ -59,24 +41,29 @@ impl Model for Program {
 
     ghost view = { λ p. record { names = p.names; threads = map (λ t. t.items) p.threads.items } };
 
-    ghost invariant = { λ p. IsProgram (record { names = p.names; threads = map (λ t. t.items) p.threads.items }) };
+    ghost invariant = { λ p. IsProgram (record { names = p.names; threads = map (λ t. t.items) p.threads.items }) × (map (λ t. map (λ s. s.items) t.items) p.graph.items ≡ graphs 1 (map (λ t. t.items) p.threads.items)) };
 }
 
 impl Program {
-    ghost use Rattle.pg_program.specs.Program.{ProgramTable, IsProgram, thread_of, stmt_at};
-    ghost use Rattle.pg_program.specs.Outcome.{Builds, CanBuild};
+    ghost use Rattle.pg_program.specs.Program.{ProgramTable, IsProgram, AreThreads, thread_of, points, stmt_at, steps_at};
+    ghost use Rattle.pg_program.specs.Outcome.{Builds};
 
-    /// The program of these names and statements, or its first fault. So far a program is one thread of at most
-    /// 31 statements, each a store of a number to a declared location, so that its fault is a `DomainSize`, an
-    /// `UnknownThread` or a `ValueOutOfDomain`. No memory is taken.
-    pub fn build(names: Names, threads: Vec<Vec<Stmt>>) -> Result<Program, ProgramFault>
-        requires { CanBuild names (map (λ t. t.items) threads.items) }
+    /// The program of these names and statements, or their first fault.
+    pub fn build(
+        alloc: Global,
+        names: Names,
+        threads: Vec<Vec<Stmt>>,
+    ) -> Result<Program, ProgramFault>
+        requires { AreThreads names (map (λ t. t.items) threads.items) }
         ensures { Builds names (map (λ t. t.items) threads.items) result }
     {
-        match first_fault(&names, &threads) {
-            Some(fault) => Err(fault),
-            None => Ok(Program { names, threads }),
-        }
+        check(alloc, &names, &threads)?;
+        let graph = linked(alloc, &threads)?;
+        Ok(Program {
+            names,
+            threads,
+            graph,
+        })
     }
 
     /// The declared names.
@@ -97,20 +84,35 @@ impl Program {
     /// The number of a thread's points: one before each statement, and one at the end.
     pub fn points(&self, thread: u8) -> u8
         requires { (1 ≤ thread) × (thread ≤ length self.now.threads) }
-        ensures { result ≡ length (thread_of self.now thread) + 1 }
+        ensures { result ≡ points self.now thread }
     {
-        let stmts = &self.threads[usize::from(thread) - 1];
-        stmts.len() as u8 + 1
+        count(self.thread(thread)) + 1
+    }
+
+    /// The steps from a point: none at the thread's end, one at a statement, and Yes then No at a test.
+    pub fn steps(&self, at: PointId) -> &[Step]
+        requires thread { (1 ≤ at.thread) × (at.thread ≤ length self.now.threads) }
+        requires point { (1 ≤ at.point) × (at.point ≤ points self.now at.thread) }
+        ensures { result.now ≡ steps_at self.now at.thread at.point }
+    {
+        steps_of(&self.graph, usize::from(at.thread) - 1, usize::from(at.point) - 1)
     }
 
     /// The statement at a point, or `None` at the thread's end.
     pub fn stmt(&self, at: PointId) -> Option<&Stmt>
         requires thread { (1 ≤ at.thread) × (at.thread ≤ length self.now.threads) }
-        requires point { (1 ≤ at.point) × (at.point ≤ length (thread_of self.now at.thread) + 1) }
+        requires point { (1 ≤ at.point) × (at.point ≤ points self.now at.thread) }
         ensures { option_copied result ≡ stmt_at self.now at.thread at.point }
     {
-        let stmts = &self.threads[usize::from(at.thread) - 1];
-        stmts.get(usize::from(at.point) - 1)
+        nth(self.thread(at.thread), at.point - 1)
+    }
+
+    fn thread(&self, thread: u8) -> &[Stmt]
+        requires { (1 ≤ thread) × (thread ≤ length self.now.threads) }
+        ensures stmts { result.now ≡ thread_of self.now thread }
+        ensures short { size (block result.now) < 32 }
+    {
+        self.threads[usize::from(thread) - 1].as_slice()
     }
 }
 
@@ -131,81 +133,117 @@ pub fn store_of(stmt: &Stmt) -> Option<(u8, u32)>
     }
 }
 
-/// The first fault of names and one thread of stores.
-fn first_fault(names: &Names, threads: &[Vec<Stmt>]) -> Option<ProgramFault>
-    requires { IsSome (straight (map (λ t. t.items) threads.now)) }
-    ensures { (stores : List (ℕ × ℕ)) → straight (map (λ t. t.items) threads.now) ≡ Some stores → result ≡ first_fault names.now stores }
+/// The steps at a place of a thread, both from 0, and none behind its last statement.
+fn steps_of(graph: &[Vec<Steps>], thread: usize, place: usize) -> &[Step]
+    requires { thread < length graph.now }
+    ensures { result.now ≡ slice_index_or (slice_index_or (map (λ t. map (λ s. s.items) t.items) graph.now) thread []) place [] }
 {
-    let domain = names.domain();
-    if !is_domain(domain) {
-        return Some(ProgramFault::DomainSize(domain));
+    match graph[thread].get(place) {
+        Some(steps) => steps.as_slice(),
+        None => &[],
     }
-    if let Some(owner) = unknown_owner(names) {
-        return Some(ProgramFault::UnknownThread(owner));
+}
+
+/// The steps from each point of each thread.
+fn linked(alloc: Global, threads: &[Vec<Stmt>]) -> Result<Vec<Vec<Steps>>, AllocError>
+    requires few { length threads.now ≤ 4 }
+    requires short { All (λ ss. size (block ss) < 32) (map (λ t. t.items) threads.now) }
+    ensures { IfOk result (λ g. map (λ t. map (λ s. s.items) t.items) g.items ≡ graphs 1 (map (λ t. t.items) threads.now)) }
+{
+    let mut graph = Vec::new(alloc);
+    for stmts in threads {
+        let thread = graph.len() as u8 + 1;
+        let mut steps = Vec::new(alloc);
+        let exit = count(stmts) + 1;
+        link(alloc, thread, 1, exit, stmts, &mut steps)?;
+        graph.push(steps)?;
     }
-    let stmts = match threads {
-        [stmts] => stmts,
-        _ => unreachable!(),
+    Ok(graph)
+}
+
+/// Appends the steps from each point of a block, which begins at point `first` and leads to point `exit` at its end.
+fn link(
+    alloc: Global,
+    thread: u8,
+    first: u8,
+    exit: u8,
+    stmts: &[Stmt],
+    graph: &mut Vec<Steps>,
+) -> Result<(), AllocError>
+    requires { first + size (block stmts.now) < 256 }
+    ensures { OnOk result (map (λ s. s.items) graph.new.items ≡ map (λ s. s.items) graph.old.items ++ steps thread first exit (block stmts.now)) }
+{
+    let node = match opened(stmts) {
+        Some(node) => node,
+        None => return Ok(()),
     };
-    match number_outside(names, stmts, domain) {
-        Some(v) => Some(ProgramFault::ValueOutOfDomain(v)),
-        None => None,
+    let second = first + 1 + count(node.first);
+    let later = second + count(node.second);
+    let next = entry(node.rest, later, exit);
+    let back = if is_loop(node.stmt) { first } else { next };
+    let yes = entry(node.first, first + 1, back);
+    let no = entry(node.second, second, next);
+    let at = PointId {
+        thread,
+        point: first,
+    };
+    graph.push(own_steps(alloc, node.stmt, at, yes, no, next)?)?;
+    link(alloc, thread, first + 1, back, node.first, graph)?;
+    link(alloc, thread, second, next, node.second, graph)?;
+    link(alloc, thread, later, exit, node.rest, graph)
+}
+
+/// The point that control comes to with a block: the block's first one, or, where it is empty, the one behind it.
+fn entry(stmts: &[Stmt], first: u8, exit: u8) -> u8
+    ensures { result ≡ into (block stmts.now) first exit }
+{
+    match opened(stmts) {
+        Some(_) => first,
+        None => exit,
     }
 }
 
-fn is_domain(size: u32) -> bool
-    ensures { result ≡ is_domain size }
+/// The steps of a statement: of a test to its two targets, and of another statement to what is next.
+fn own_steps(
+    alloc: Global,
+    stmt: &Stmt,
+    at: PointId,
+    yes: u8,
+    no: u8,
+    next: u8,
+) -> Result<Steps, AllocError>
+    ensures { IfOk result (λ s. s.items ≡ own_steps (is_test stmt.now) at.thread at.point yes no next) }
 {
-    (2..=4).contains(&size)
+    let mut steps = SmallVec::new(alloc);
+    if is_test(stmt) {
+        steps.push(step(at, Branch::Yes, yes))?;
+        steps.push(step(at, Branch::No, no))?;
+    } else {
+        steps.push(step(at, Branch::Plain, next))?;
+    }
+    Ok(steps)
 }
 
-/// The first number that is not in the domain: an initial value, or else a stored one.
-fn number_outside(names: &Names, stmts: &[Stmt], domain: u32) -> Option<u32>
-    ensures { result ≡ first_outside domain (initial names.now ++ stored (filter_map store_of stmts.now)) }
+fn step(at: PointId, branch: Branch, target: u8) -> Step
+    ensures { result ≡ record { thread = at.thread; point = at.point; branch = branch; target = target } }
 {
-    match initial_outside(names, domain) {
-        Some(init) => Some(init),
-        None => stored_outside(stmts, domain),
+    Step {
+        thread: at.thread,
+        point: at.point,
+        branch,
+        target,
     }
 }
 
-/// The first owner of a register that is not thread 1.
-fn unknown_owner(names: &Names) -> Option<u32>
-    ensures { result ≡ unknown_owner 1 names.now.scalars }
+/// Whether a statement is an `if` or a `while`.
+fn is_test(stmt: &Stmt) -> bool
+    ensures { result ≡ is_test stmt.now }
 {
-    for r in 0..names.scalars() {
-        if let NameKind::Register { owner } = names.kind(r) {
-            if owner != 1 {
-                return Some(owner);
-            }
-        }
-    }
-    None
+    matches!(stmt.act, Act::If { .. } | Act::While { .. })
 }
 
-/// The first initial value that is not in the domain.
-fn initial_outside(names: &Names, domain: u32) -> Option<u32>
-    ensures { result ≡ first_outside domain (initial names.now) }
+fn is_loop(stmt: &Stmt) -> bool
+    ensures { result ≡ is_loop stmt.now }
 {
-    for x in 0..names.locations() {
-        let init = names.init(x);
-        if init >= domain {
-            return Some(init);
-        }
-    }
-    None
-}
-
-/// The first stored number that is not in the domain.
-fn stored_outside(stmts: &[Stmt], domain: u32) -> Option<u32>
-    ensures { result ≡ first_outside domain (stored (filter_map store_of stmts.now)) }
-{
-    for stmt in stmts {
-        if let Some((_, v)) = store_of(stmt) {
-            if v >= domain {
-                return Some(v);
-            }
-        }
-    }
-    None
+    matches!(stmt.act, Act::While { .. })
 }

@@ -1,5 +1,5 @@
 use Rattle.std.proofs.Common.{◌≡◌, take}
-use Rattle.pg_program.specs.Straight.{initial}
+use Rattle.pg_program.specs.NameTable.{initial}
 use Rattle.pg_judge.proofs.judgement.initial_values.Given as goal
 
 abbrev pub invariant-loop-x : goal.invariant-loop-x

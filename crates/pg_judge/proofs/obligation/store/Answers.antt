@@ -1,4 +1,7 @@
 use Rattle.std.proofs.Common.{◌∙◌, ◌-◌, [], get_or, arith}
+use Rattle.pg_program.specs.Block.{block}
+use Rattle.pg_program.specs.Graph.{statements}
+use Rattle.pg_program.proofs.GraphLemmas.{length-statements}
 use Rattle.pg_judge.proofs.Stores.{thread_long, store_found, slice_get_within}
 use Rattle.pg_judge.proofs.obligation.store.Goals as goal
 
@@ -15,8 +18,10 @@ unreachable-requires c =
 
 pub unreachable-requires-in-None : goal.unreachable-requires-in-None
 unreachable-requires-in-None c =
+    let b = block (get_or c.args.o.now.program.threads 0 []) in
     let long = thread_long c.args.o.now.program.threads in
-    slice_get_within (get_or c.args.o.now.program.threads 0 []) (c.args.k - 1) (omega (arith, c.requires.0, c.requires.1)) c.in-None.ensures
+    let size = length-statements b in
+    slice_get_within (statements b) (c.args.k - 1) (omega (arith, c.requires.0, c.requires.1, long, size)) c.in-None.ensures
 
 pub returns : goal.returns
 returns c =

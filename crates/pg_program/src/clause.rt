@@ -1,0 +1,267 @@
+//! The clauses that names and threads are to meet, in their order.
+
+ghost use Rattle.std.specs.Prelude.{◌≡◌, ◌++◌, ◌<◌, [], length, map, All, OnOk, IfOk, IfSome, string_bytes, option_map};
+ghost use Rattle.std.specs.List.{find, list_any};
+ghost use Rattle.pg_program.specs.NameTable.{NameTable, initial};
+ghost use Rattle.pg_program.specs.declared.point.PointId.{PointId};
+ghost use Rattle.pg_program.specs.Block.{block};
+ghost use Rattle.pg_program.specs.Graph.{size, statements};
+ghost use Rattle.pg_program.specs.Fault.{first_fault, in_thread, in_threads, domain_fault, unknown_owner, first_outside, own_registers, no_auxiliaries, distinct_targets, numbers_inside, few_names, is_foreign, is_auxiliary, scalar_name, repeated, different, scalars_of, outside, targets, numbers_of, groups, unknown_thread, value_out_of_domain};
+ghost use Rattle.pg_program.specs.Clause.{clause_of};
+ghost use Rattle.pg_program.specs.Program.{AreThreads, IsThread, IsStmt};
+ghost use Rattle.pg_program.specs.Outcome.{Finds};
+
+use crate::block::{count, nth};
+use crate::fault::ProgramFault;
+use crate::name_table::{NameKind, Names};
+use crate::point::PointId;
+use crate::syntax::Stmt;
+use crate::words::{numbers_of, outside, reads_many, scalars_of, stands_in, targets};
+use std::alloc::{AllocError, Global};
+
+/// The clauses that go through the text.
+#[derive(Clone, Copy)]
+pub enum Clause {
+    /// A thread uses its own registers alone.
+    OwnRegisters,
+    /// No auxiliary stands outside a bracket.
+    NoAuxiliaries,
+    /// The targets of a bracket differ.
+    DistinctTargets,
+    /// Each number of an expression is in the domain.
+    NumbersInside,
+    /// No expression and no test reads more than four names.
+    FewNames,
+}
+
+/// The first fault of names and threads, as an error.
+pub fn check(alloc: Global, names: &Names, threads: &[Vec<Stmt>]) -> Result<(), ProgramFault>
+    requires { AreThreads names.now (map (λ t. t.items) threads.now) }
+    ensures { Finds (first_fault names.now (map (λ t. t.items) threads.now)) result }
+{
+    check_domain(names.domain())?;
+    check_owners(names, threads.len() as u32)?;
+    check_text(alloc, Clause::OwnRegisters, names, threads)?;
+    check_text(alloc, Clause::NoAuxiliaries, names, threads)?;
+    check_text(alloc, Clause::DistinctTargets, names, threads)?;
+    check_initial(names)?;
+    check_text(alloc, Clause::NumbersInside, names, threads)?;
+    check_text(alloc, Clause::FewNames, names, threads)
+}
+
+/// A domain has two to four values.
+fn check_domain(size: u32) -> Result<(), ProgramFault>
+    ensures { Finds (domain_fault size) result }
+{
+    if (2..=4).contains(&size) {
+        Ok(())
+    } else {
+        Err(ProgramFault::DomainSize(size))
+    }
+}
+
+/// The owner of each register is one of this many threads.
+fn check_owners(names: &Names, threads: u32) -> Result<(), ProgramFault>
+    ensures { Finds (option_map unknown_thread (unknown_owner threads names.now.scalars)) result }
+{
+    for r in 0..names.scalars() {
+        if let NameKind::Register { owner } = names.kind(r) {
+            if owner < 1 || threads < owner {
+                return Err(ProgramFault::UnknownThread(owner));
+            }
+        }
+    }
+    Ok(())
+}
+
+/// Each initial value is in the domain.
+fn check_initial(names: &Names) -> Result<(), ProgramFault>
+    ensures { Finds (option_map value_out_of_domain (first_outside names.now.domain (initial names.now))) result }
+{
+    for x in 0..names.locations() {
+        let init = names.init(x);
+        if init >= names.domain() {
+            return Err(ProgramFault::ValueOutOfDomain(init));
+        }
+    }
+    Ok(())
+}
+
+/// Each statement of each thread meets the clause, in the order of the text.
+fn check_text(
+    alloc: Global,
+    clause: Clause,
+    names: &Names,
+    threads: &[Vec<Stmt>],
+) -> Result<(), ProgramFault>
+    requires { AreThreads names.now (map (λ t. t.items) threads.now) }
+    ensures { Finds (in_threads (clause_of clause names.now) 1 (map (λ t. t.items) threads.now)) result }
+{
+    for (i, stmts) in threads.iter().enumerate() {
+        check_thread(alloc, clause, names, i as u8 + 1, stmts)?;
+    }
+    Ok(())
+}
+
+/// Each statement of a thread meets the clause, in the order of the text.
+fn check_thread(
+    alloc: Global,
+    clause: Clause,
+    names: &Names,
+    thread: u8,
+    stmts: &[Stmt],
+) -> Result<(), ProgramFault>
+    requires { IsThread names.now stmts.now }
+    ensures { Finds (in_thread (clause_of clause names.now) thread 1 (statements (block stmts.now))) result }
+{
+    for place in 0..count(stmts) {
+        let at = PointId {
+            thread,
+            point: place + 1,
+        };
+        match nth(stmts, place) {
+            Some(stmt) => check_stmt(alloc, clause, names, at, stmt)?,
+            None => unreachable!(),
+        }
+    }
+    Ok(())
+}
+
+/// A statement meets the clause.
+fn check_stmt(
+    alloc: Global,
+    clause: Clause,
+    names: &Names,
+    at: PointId,
+    stmt: &Stmt,
+) -> Result<(), ProgramFault>
+    requires { IsStmt names.now stmt.now }
+    ensures { Finds (clause_of clause names.now at stmt.now) result }
+{
+    match clause {
+        Clause::OwnRegisters => own_registers(alloc, names, at, stmt),
+        Clause::NoAuxiliaries => no_auxiliaries(alloc, names, stmt),
+        Clause::DistinctTargets => distinct_targets(alloc, names, stmt),
+        Clause::NumbersInside => numbers_inside(alloc, names, stmt),
+        Clause::FewNames => few_names(alloc, at, stmt),
+    }
+}
+
+fn own_registers(
+    alloc: Global,
+    names: &Names,
+    at: PointId,
+    stmt: &Stmt,
+) -> Result<(), ProgramFault>
+    requires { IsStmt names.now stmt.now }
+    ensures { Finds (own_registers names.now at stmt.now) result }
+{
+    let scalars = scalars_of(alloc, stmt)?;
+    match first_foreign(names, at.thread, &scalars) {
+        Some(r) => Err(ProgramFault::ForeignRegister(name_of(alloc, names, r)?)),
+        None => Ok(()),
+    }
+}
+
+fn no_auxiliaries(alloc: Global, names: &Names, stmt: &Stmt) -> Result<(), ProgramFault>
+    requires { IsStmt names.now stmt.now }
+    ensures { (at : PointId) → Finds (no_auxiliaries names.now at stmt.now) result }
+{
+    let scalars = outside(alloc, stmt)?;
+    match first_auxiliary(names, &scalars) {
+        Some(r) => Err(ProgramFault::AuxInProgram(name_of(alloc, names, r)?)),
+        None => Ok(()),
+    }
+}
+
+fn distinct_targets(alloc: Global, names: &Names, stmt: &Stmt) -> Result<(), ProgramFault>
+    requires { IsStmt names.now stmt.now }
+    ensures { (at : PointId) → Finds (distinct_targets names.now at stmt.now) result }
+{
+    let targets = targets(alloc, stmt)?;
+    match first_repeated(&targets) {
+        Some(r) => Err(ProgramFault::AuxTwice(name_of(alloc, names, r)?)),
+        None => Ok(()),
+    }
+}
+
+fn numbers_inside(alloc: Global, names: &Names, stmt: &Stmt) -> Result<(), ProgramFault>
+    ensures { (at : PointId) → Finds (numbers_inside names.now at stmt.now) result }
+{
+    let numbers = numbers_of(alloc, stmt)?;
+    match first_outside(names.domain(), &numbers) {
+        Some(v) => Err(ProgramFault::ValueOutOfDomain(v)),
+        None => Ok(()),
+    }
+}
+
+fn few_names(alloc: Global, at: PointId, stmt: &Stmt) -> Result<(), ProgramFault>
+    ensures { (names : NameTable) → Finds (few_names names at stmt.now) result }
+{
+    if reads_many(alloc, stmt)? {
+        return Err(ProgramFault::ExpressionNames(at));
+    }
+    Ok(())
+}
+
+/// The first of some scalars that is a register of another thread.
+fn first_foreign(names: &Names, thread: u8, scalars: &[u8]) -> Option<u8>
+    requires { All (λ r. r < length names.now.scalars) scalars.now }
+    ensures first { result ≡ find (is_foreign names.now thread) scalars.now }
+    ensures declared { IfSome result (λ r. r < length names.now.scalars) }
+{
+    for r in scalars {
+        if let NameKind::Register { owner } = names.kind(*r) {
+            if owner != u32::from(thread) {
+                return Some(*r);
+            }
+        }
+    }
+    None
+}
+
+/// The first of some scalars that is an auxiliary.
+fn first_auxiliary(names: &Names, scalars: &[u8]) -> Option<u8>
+    requires { All (λ r. r < length names.now.scalars) scalars.now }
+    ensures first { result ≡ find (is_auxiliary names.now) scalars.now }
+    ensures declared { IfSome result (λ r. r < length names.now.scalars) }
+{
+    for r in scalars {
+        if let NameKind::Auxiliary = names.kind(*r) {
+            return Some(*r);
+        }
+    }
+    None
+}
+
+/// The first scalar that stands again among those before it.
+fn first_repeated(scalars: &[u8]) -> Option<u8>
+    ensures { result ≡ repeated [] scalars.now }
+{
+    for (i, r) in scalars.iter().enumerate() {
+        if stands_in(*r, &scalars[..i]) {
+            return Some(*r);
+        }
+    }
+    None
+}
+
+/// The first number that is not below the size of the domain.
+fn first_outside(domain: u32, numbers: &[u32]) -> Option<u32>
+    ensures { result ≡ first_outside domain numbers.now }
+{
+    for v in numbers {
+        if *v >= domain {
+            return Some(*v);
+        }
+    }
+    None
+}
+
+/// The name of a scalar.
+fn name_of(alloc: Global, names: &Names, r: u8) -> Result<String, AllocError>
+    requires { r < length names.now.scalars }
+    ensures { IfOk result (λ name. string_bytes name ≡ scalar_name names.now r) }
+{
+    String::from_str(alloc, names.scalar_name(r))
+}
