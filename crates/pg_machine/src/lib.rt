@@ -8,6 +8,8 @@
 mod event;
 mod fault;
 pub mod laws;
+mod messages;
+mod positions;
 mod state;
 mod views;
 
