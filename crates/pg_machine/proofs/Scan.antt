@@ -1,6 +1,6 @@
 -- What the scans of messages and positions find.
-use Rattle.std.proofs.Common.{◌≡◌, ℕ, zero, suc, ◌+◌, ◌-◌, ◌<◌, ◌≤◌, ◌==◌, max, nat_le, nat_lt, Bool, true, false, cond, not, ◌&&◌, List, [], ◌∷◌, length, get_or, set, drop, refl, sym, ap, ◌∙◌, arith}
-use Rattle.std.proofs.lemmas.Bool.{lt-leb, lt-ltb, le-leb}
+use Rattle.std.proofs.Common.{◌≡◌, ℕ, zero, suc, ◌+◌, ◌-◌, ◌<◌, ◌≤◌, ◌==◌, max, nat_le, nat_lt, Bool, true, false, cond, not, ◌&&◌, List, [], ◌∷◌, length, get_or, set, drop, refl, inl, inr, sym, ap, ◌∙◌, arith}
+use Rattle.std.proofs.lemmas.Bool.{lt-leb, lt-ltb, le-leb, cases_lt, true≢false}
 use Rattle.pg_machine.specs.Memory.{is_to, is_at, last_upto, every_below, hides, is_clear}
 use Rattle.pg_machine.specs.State.{greatest}
 use Rattle.pg_machine.specs.Moves.{greater}
@@ -26,6 +26,17 @@ pub last_upto-next : (ms : List (ℕ × ℕ)) (x i : ℕ) → last_upto ms x (i 
 last_upto-next ms x i =
     let e : i + 1 ≡ suc i = omega arith in
     ap (last_upto ms x) e ∙ ap (λ (n : ℕ). cond (is_to ms x i) n (last_upto ms x i)) (sym e)
+
+-- there is no position behind the last message
+pub is_at-behind : (ms : List (ℕ × ℕ)) (x p : ℕ) → length ms < p → is_at ms x p ≡ false
+is_at-behind ms x zero lt = absurd (omega arith)
+is_at-behind ms x (suc i) lt = is_to-behind ms x i (omega arith)
+
+pub is_at-within : (ms : List (ℕ × ℕ)) (x p : ℕ) → is_at ms x p ≡ true → p ≤ length ms
+is_at-within ms x p h = elim (cases_lt (length ms) p) [
+    | inl lt ↦ absurd (true≢false (sym h ∙ is_at-behind ms x p lt))
+    | inr le ↦ le
+  ]
 
 -- ---- what hides a position
 

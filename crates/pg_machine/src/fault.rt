@@ -1,6 +1,5 @@
 //! The faults of an event.
 
-use std::alloc::AllocError;
 use thiserror::Error;
 
 /// How many messages a state may have.
@@ -43,15 +42,4 @@ pub enum StepFault {
     MessagesFull,
     #[error("out of memory")]
     NoMemory,
-}
-
-impl From<AllocError> for StepFault {
-    ghost use Rattle.std.specs.Prelude.{◌≡◌};
-    ghost use Rattle.pg_machine.specs.declared.fault.StepFault.TheVariants.{NoMemory};
-
-    ghost from_gives = { λ _ e. e ≡ NoMemory };
-
-    fn from(_: AllocError) -> StepFault {
-        StepFault::NoMemory
-    }
 }

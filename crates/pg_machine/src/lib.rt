@@ -8,6 +8,7 @@
 mod event;
 mod fault;
 pub mod laws;
+mod memory;
 mod messages;
 mod positions;
 mod state;

@@ -44,11 +44,12 @@ pub fn last(messages: &[(u8, u8)], location: u8) -> u32
 
 /// The least position of the location that is above `position` and at most `bound`.
 pub fn hiding(messages: &[(u8, u8)], location: u8, position: u32, bound: u32) -> Option<u32>
-    requires position { position ≤ MAX_MESSAGES }
-    requires bound { bound ≤ MAX_MESSAGES }
+    requires position { position ≤ length messages.now }
+    requires few { length messages.now ≤ MAX_MESSAGES }
     ensures { MatchOption result (is_clear messages.now location position bound ≡ true) (λ q. IsLeastHiding messages.now location position bound q) }
 {
-    for later in position + 1..bound + 1 {
+    let end = bound.min(messages.len() as u32);
+    for later in position + 1..end + 1 {
         if is_at(messages, location, later) {
             return Some(later);
         }
