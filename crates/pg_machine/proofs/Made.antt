@@ -21,3 +21,10 @@ take-step (x ∷ xs) (suc i) lt = ap (λ (l : List ℕ). x ∷ l) (take-step xs 
 
 pub take-next : (xs : List ℕ) (i : ℕ) → i < length xs → take (i + 1) xs ≡ take i xs ++ get_or xs i 0 ∷ []
 take-next xs i lt = let e : i + 1 ≡ suc i = omega arith in ap (λ (n : ℕ). take n xs) e ∙ take-step xs i lt
+
+-- a list is what stands before its last item, and that
+pub last_at : {X : Type 0} (xs : List X) (i : ℕ) (a : X) → suc i ≡ length xs → a ≡ get_or xs i a → take i xs ++ a ∷ [] ≡ xs
+last_at [] i a e h = absurd (omega arith)
+last_at {X} (x ∷ []) zero a e h = ap (λ (b : X). b ∷ []) h
+last_at (x ∷ y ∷ ys) zero a e h = absurd (omega arith)
+last_at {X} (x ∷ xs) (suc i) a e h = ap (λ (l : List X). x ∷ l) (last_at xs i a (omega arith) h)

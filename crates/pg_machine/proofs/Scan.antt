@@ -38,6 +38,14 @@ is_at-within ms x p h = elim (cases_lt (length ms) p) [
     | inr le ↦ le
   ]
 
+pub last_upto-within : (ms : List (ℕ × ℕ)) (x n : ℕ) → last_upto ms x n ≤ n
+last_upto-within ms x zero = omega arith
+last_upto-within ms x (suc n) = by (is_to ms x n) (last_upto-within ms x n)
+  where
+    by : (b : Bool) → last_upto ms x n ≤ n → cond b (suc n) (last_upto ms x n) ≤ suc n
+    by true h = omega arith
+    by false h = omega (arith, h)
+
 -- ---- what hides a position
 
 every-below : (f : ℕ → Bool) (n : ℕ) → ((q : ℕ) → q < n → f q ≡ true) → every_below f n ≡ true

@@ -5,12 +5,14 @@
 //! state, and its `step` takes the step that an event leads to, or tells the fault that it has.
 #![tactic(auto)]
 
+mod access;
 mod event;
 mod fault;
 pub mod laws;
 mod memory;
 mod messages;
 mod positions;
+mod row;
 mod state;
 mod views;
 

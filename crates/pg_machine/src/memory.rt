@@ -2,7 +2,7 @@
 
 ghost use Rattle.std.specs.Prelude.{◌≡◌, ℕ, ◌+◌, ◌-◌, ◌<◌, ◌≤◌, true, [], ◌∷◌, ◌++◌, length, slice_index, slice_index_or, MatchOption, All, IfOk, IfErr, OnOk, OnErr};
 ghost use Rattle.pg_program.specs.NameTable.{initial};
-ghost use Rattle.pg_machine.specs.Memory.{is_at, value_at, last, is_clear, message_appended};
+ghost use Rattle.pg_machine.specs.Memory.{is_at, value_at, last_value, is_clear, message_appended};
 ghost use Rattle.pg_machine.specs.Fault.{IsLeastHiding, IsFull};
 ghost use Rattle.pg_machine.specs.Held.{IsRefusal};
 ghost use Rattle.pg_machine.specs.declared.fault.TheConstants.{MAX_MESSAGES};
@@ -94,11 +94,13 @@ impl Memory {
         messages::value_at(&self.initial, &self.messages, location, position)
     }
 
-    /// The greatest position of the location.
-    pub fn last(&self, location: u8) -> u32
-        ensures { result ≡ last self.now.memory.messages location }
+    /// The value at the greatest position of the location.
+    pub fn last_value(&self, location: u8) -> u8
+        requires { location < length self.now.memory.initial }
+        ensures { result ≡ last_value self.now.memory location }
     {
-        messages::last(&self.messages, location)
+        let last = messages::last(&self.messages, location);
+        messages::value_at(&self.initial, &self.messages, location, last)
     }
 
     /// The least position of the location that is above one of its positions and at most `bound`.
