@@ -1,3 +1,5 @@
 pub mod Scan
 pub mod Made
 pub mod Uses
+pub mod Formed
+pub mod Taken

@@ -10,7 +10,7 @@ use Rattle.pg_program.specs.declared.syntax.Act.{Act, out-Act, Assign, Store, Ca
 use Rattle.pg_program.specs.declared.syntax.Act.TheOpen as opened
 use Rattle.pg_program.specs.declared.point.Branch.{Branch}
 use Rattle.pg_program.specs.declared.point.Branch.TheVariants.{Yes, No}
-use Rattle.pg_program.specs.Fault.{outside_in, locations_in}
+use Rattle.pg_program.specs.Fault.{outside_in, locations_in, bracket_scalars}
 use Rattle.pg_program.specs.Expr.{reads, value, test_holds}
 use Rattle.pg_machine.specs.Step.{branch_taken, assigned}
 
@@ -114,3 +114,16 @@ pub assigned-snoc : (d : ℕ) (seen : List ℕ) (bracket : List AuxAssign) (a : 
     → assigned d seen (bracket ++ a ∷ []) r ≡ set (assigned d seen bracket r) a.target (value seen d a.expr)
 assigned-snoc d seen [] a r = refl
 assigned-snoc d seen (b ∷ bracket) a r = assigned-snoc d seen bracket a (set r b.target (value seen d b.expr))
+
+pub bracket_targets : (n : ℕ) (bracket : List AuxAssign) → All (λ r. r < n) (bracket_scalars bracket) → All (λ a. a.target < n) bracket
+bracket_targets n [] h = All-nil (λ (a : AuxAssign). a.target < n)
+bracket_targets n (a ∷ rest) h =
+    All-cons (λ (b : AuxAssign). b.target < n) a rest (All-head (λ (r : ℕ). r < n) a.target (reads a.expr ++ bracket_scalars rest) h)
+    (bracket_targets n rest (all_right n (reads a.expr) (bracket_scalars rest) (All-tail (λ (r : ℕ). r < n) a.target (reads a.expr ++ bracket_scalars rest) h)))
+
+pub bracket_names : (n : ℕ) (bracket : List AuxAssign) → All (λ r. r < n) (bracket_scalars bracket) → All (λ a. All (λ r. r < n) (reads a.expr)) bracket
+bracket_names n [] h = All-nil (λ (a : AuxAssign). All (λ (r : ℕ). r < n) (reads a.expr))
+bracket_names n (a ∷ rest) h =
+    let tail = All-tail (λ (r : ℕ). r < n) a.target (reads a.expr ++ bracket_scalars rest) h in
+    All-cons (λ (b : AuxAssign). All (λ (r : ℕ). r < n) (reads b.expr)) a rest (all_left n (reads a.expr) (bracket_scalars rest) tail)
+    (bracket_names n rest (all_right n (reads a.expr) (bracket_scalars rest) tail))

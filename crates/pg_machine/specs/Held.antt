@@ -1,10 +1,12 @@
 -- What a contract sees of the machine's own types: beside a memory or a state, for how many more messages there is room.
-use Rattle.std.specs.Prelude.{◌≡◌, ℕ, ◌⊎◌, length}
+use Rattle.std.specs.Prelude.{◌≡◌, ℕ, ◌<◌, ◌⊎◌, List, Option, All, length}
 use Rattle.pg_machine.specs.declared.fault.StepFault.{StepFault}
 use Rattle.pg_machine.specs.declared.fault.StepFault.TheVariants.{NoMemory}
 use Rattle.pg_machine.specs.Memory.{Memory}
 use Rattle.pg_machine.specs.State.{Views, State}
 use Rattle.pg_machine.specs.Moves.{Seen}
+use Rattle.pg_program.specs.declared.syntax.Stmt.{Stmt}
+use Rattle.pg_machine.specs.Step.{Left, Row, act_of, bracket_of, bracket_done}
 
 pub record HeldMemory : Type 0 where
   pub memory : Memory
@@ -27,3 +29,14 @@ pub record AreSized (m : HeldMemory) (w : Views) : Type 0 where
   pub coh : length w.coh ≡ length m.memory.initial
   pub vpa : length w.vpa ≡ length m.memory.initial
   pub vpc : length w.vpc ≡ length m.memory.initial
+
+-- each value of the memory is below d
+pub record AreBelow (d : ℕ) (m : HeldMemory) : Type 0 where
+  pub initial : All (λ v. v < d) m.memory.initial
+  pub messages : All (λ s. s.1 < d) m.memory.messages
+
+-- what a statement leaves: its act leaves what its row says, and then its bracket takes effect
+pub record Does (d : ℕ) (n : Seen) (r : List ℕ) (stmt : Stmt) (choice : Option ℕ) (after : Left) : Type 0 where
+  pub left : Left
+  pub row : Row d n r (act_of stmt) choice left
+  pub becomes : after ≡ record left { scalars = bracket_done d (bracket_of stmt) left.scalars }

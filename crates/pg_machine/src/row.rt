@@ -2,18 +2,43 @@
 
 ghost use Rattle.std.specs.Prelude.{◌≡◌, ◌+◌, ◌<◌, ◌≤◌, length, if◌then◌else◌, All, IsSome, Some, IfErr, OnOk, OnErr};
 ghost use Rattle.pg_program.specs.declared.syntax.Act.{out-Act};
-ghost use Rattle.pg_program.specs.Fault.{outside_in, locations_in};
+ghost use Rattle.pg_program.specs.Fault.{outside_in, locations_in, scalars_of, locations_of};
 ghost use Rattle.pg_program.specs.Graph.{target_of};
 ghost use Rattle.pg_program.specs.Expr.{reads};
-ghost use Rattle.pg_machine.specs.Step.{Row, leaves, branch_taken, bracket_done};
+ghost use Rattle.pg_machine.specs.Step.{Row, leaves, act_of, branch_taken, bracket_done};
 ghost use Rattle.pg_machine.specs.Fault.{RowFault};
-ghost use Rattle.pg_machine.specs.Held.{seen_in, IsRefusal, AreSized};
+ghost use Rattle.pg_machine.specs.Held.{seen_in, IsRefusal, AreSized, AreBelow, Does};
 
 use crate::access::{load, miss, store, swap};
 use crate::fault::StepFault;
 use crate::memory::Memory;
 use crate::views::Views;
-use pg_program::{Act, AuxAssign, Branch, Step, eval, holds_cond};
+use pg_program::{Act, AuxAssign, Branch, Step, Stmt, eval, holds_cond};
+
+/// Does what a statement does: its act, and then its bracket. A refusal leaves all as it was.
+pub fn run(
+    stmt: &Stmt,
+    choice: Option<u32>,
+    domain: u32,
+    memory: &mut Memory,
+    views: &mut Views,
+    scalars: &mut [u8],
+) -> Result<(), StepFault>
+    requires domain { (2 ≤ domain) × (domain ≤ 6) }
+    requires values { All (λ v. v < domain) scalars.old }
+    requires scalars { All (λ r. r < length scalars.old) (scalars_of stmt.now) }
+    requires locations { All (λ x. x < length memory.old.memory.initial) (locations_of stmt.now) }
+    requires sizes { AreSized memory.old views.old }
+    requires stored { AreBelow domain memory.old }
+    ensures ok { OnOk result (Does domain (seen_in memory.old views.old) scalars.old stmt.now choice (leaves (seen_in memory.new views.new) scalars.new)) }
+    ensures err { IfErr result (λ f. IsRefusal (RowFault domain (seen_in memory.old views.old) scalars.old (act_of stmt.now) choice) memory.old.spare f) }
+    ensures unchanged { OnErr result ((seen_in memory.new views.new ≡ seen_in memory.old views.old) × (scalars.new ≡ scalars.old)) }
+    ensures spare { memory.old.spare + length memory.old.memory.messages ≤ memory.new.spare + length memory.new.memory.messages }
+{
+    act(&stmt.act, choice, domain, memory, views, scalars)?;
+    assign(stmt.aux.as_slice(), domain, scalars);
+    Ok(())
+}
 
 /// Does what an act does to the memory, to the views of its thread and to the scalars. A refusal leaves all as it was.
 pub fn act(
@@ -29,8 +54,10 @@ pub fn act(
     requires scalars { All (λ r. r < length scalars.old) (outside_in (out-Act act.now)) }
     requires locations { All (λ x. x < length memory.old.memory.initial) (locations_in (out-Act act.now)) }
     requires sizes { AreSized memory.old views.old }
+    requires stored { AreBelow domain memory.old }
     ensures ok { OnOk result (Row domain (seen_in memory.old views.old) scalars.old (out-Act act.now) choice (leaves (seen_in memory.new views.new) scalars.new)) }
     ensures err { IfErr result (λ f. IsRefusal (RowFault domain (seen_in memory.old views.old) scalars.old (out-Act act.now) choice) memory.old.spare f) }
+    ensures values { All (λ v. v < domain) scalars.new }
     ensures unchanged { OnErr result ((seen_in memory.new views.new ≡ seen_in memory.old views.old) × (scalars.new ≡ scalars.old)) }
     ensures spare { memory.old.spare + length memory.old.memory.messages ≤ memory.new.spare + length memory.new.memory.messages }
 {
