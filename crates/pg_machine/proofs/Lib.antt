@@ -3,3 +3,6 @@ pub mod Made
 pub mod Uses
 pub mod Formed
 pub mod Taken
+pub mod Faults
+pub mod WellFormed
+pub mod ViewsKept

@@ -108,8 +108,19 @@ parts_of p s memory views scalars points names t k u d stmt w r is low high thre
   scalars = rs ∙ ap (λ (h : Held). h.state.scalars) is;
 }
 
+unrefused : (p : ProgramTable) (s : State) (t k : ℕ) (stmt : Stmt) (d : ℕ) (m : HeldMemory) (w : Views) (r : List ℕ) (choice : Option ℕ) (fault : StepFault)
+    → Parts p s t k stmt d m w r → ActFault p s (record { thread = t; choice = choice }) fault → RowFault d (seen_in m w) r (act_of stmt) choice fault
+unrefused p s t k stmt d m w r choice fault h f =
+    let seen = same_seen m.memory s w t h.memory h.views in
+    let at : stmt_at p t (point_of s t) ≡ Some stmt = ap (stmt_at p t) (sym h.point) ∙ h.stands in
+    let same : f.stmt ≡ stmt = let e = sym f.stands ∙ at in cc in
+    let a = subst (λ (x : Stmt). RowFault p.names.domain (seen_by s t) s.scalars (act_of x) choice fault) same f.row in
+    let b = subst (λ (l : List ℕ). RowFault p.names.domain (seen_by s t) l (act_of stmt) choice fault) (sym h.scalars) a in
+    let c = subst (λ (n : Seen). RowFault p.names.domain n r (act_of stmt) choice fault) (sym seen) b in
+    subst (λ (n : ℕ). RowFault n (seen_in m w) r (act_of stmt) choice fault) (sym h.domain) c
+
 pub refusal : (p : ProgramTable) (s : Held) (t k : ℕ) (stmt : Stmt) (d : ℕ) (m : HeldMemory) (w : Views) (r : List ℕ) (choice : Option ℕ) (fault : StepFault)
     → Parts p s.state t k stmt d m w r → m.spare ≡ s.spare → IsRefusal (RowFault d (seen_in m w) r (act_of stmt) choice) m.spare fault
     → IsRefusal (ActFault p s.state (record { thread = t; choice = choice })) s.spare fault
 refusal p s t k stmt d m w r choice fault h e (inl row) = inl (refused p s.state t k stmt d m w r choice fault h row)
-refusal p s t k stmt d m w r choice fault h e (inr (is, none)) = inr (is, sym e ∙ none)
+refusal p s t k stmt d m w r choice fault h e (inr (is, none, free)) = inr (is, sym e ∙ none, λ f act. free f (unrefused p s.state t k stmt d m w r choice f h act))

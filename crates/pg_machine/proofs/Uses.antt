@@ -1,5 +1,5 @@
 -- The scalars and locations that an act uses.
-use Rattle.std.proofs.Common.{rules, ◌≡◌, ℕ, ◌+◌, ◌<◌, ◌⊎◌, inl, inr, Bool, true, false, cond, List, [], ◌∷◌, ◌++◌, set, refl, sym, ap, subst, ◌∙◌}
+use Rattle.std.proofs.Common.{◌≡◌, ◌≢◌, ℕ, zero, suc, get_or, Option, None, ◌+◌, ◌<◌, ◌⊎◌, inl, inr, Bool, true, false, cond, List, [], ◌∷◌, ◌++◌, set, refl, sym, ap, subst, ◌∙◌}
 use Rattle.std.specs.List.{All}
 use Rattle.std.proofs.lemmas.List.Elements.{All-nil, All-cons, All-head, All-tail}
 use Rattle.pg_program.specs.declared.syntax.Expr.{Expr}
@@ -12,7 +12,13 @@ use Rattle.pg_program.specs.declared.point.Branch.{Branch}
 use Rattle.pg_program.specs.declared.point.Branch.TheVariants.{Yes, No}
 use Rattle.pg_program.specs.Fault.{outside_in, locations_in, bracket_scalars}
 use Rattle.pg_program.specs.Expr.{reads, value, test_holds}
+use Rattle.pg_machine.specs.declared.fault.StepFault.{StepFault}
+use Rattle.pg_machine.specs.declared.fault.StepFault.TheVariants.{CasNotLast, MessagesFull}
+use Rattle.pg_machine.specs.Memory.{Memory, value_at, last_value}
+use Rattle.pg_machine.specs.Moves.{Seen}
 use Rattle.pg_machine.specs.Step.{branch_taken, assigned}
+use Rattle.pg_machine.specs.Fault.{IsFull, RowFault}
+use Rattle.pg_machine.specs.Held.{IsRefusal}
 
 pub all_left : (n : ℕ) (xs ys : List ℕ) → All (λ r. r < n) (xs ++ ys) → All (λ r. r < n) xs
 all_left n [] ys h = All-nil (λ (r : ℕ). r < n)
@@ -127,3 +133,28 @@ bracket_names n (a ∷ rest) h =
     let tail = All-tail (λ (r : ℕ). r < n) a.target (reads a.expr ++ bracket_scalars rest) h in
     All-cons (λ (b : AuxAssign). All (λ (r : ℕ). r < n) (reads b.expr)) a rest (all_left n (reads a.expr) (bracket_scalars rest) tail)
     (bracket_names n rest (all_right n (reads a.expr) (bracket_scalars rest) tail))
+
+-- ---- values of the memory
+
+get-below : (d : ℕ) (xs : List ℕ) (i : ℕ) → 0 < d → All (λ v. v < d) xs → get_or xs i 0 < d
+get-below d [] i some h = some
+get-below d (x ∷ xs) zero some h = All-head (λ (v : ℕ). v < d) x xs h
+get-below d (x ∷ xs) (suc i) some h = get-below d xs i some (All-tail (λ (v : ℕ). v < d) x xs h)
+
+message-below : (d : ℕ) (ms : List (ℕ × ℕ)) (i : ℕ) → 0 < d → All (λ m. m.1 < d) ms → (get_or ms i (0, 0)).1 < d
+message-below d [] i some h = some
+message-below d (m ∷ ms) zero some h = All-head (λ (v : ℕ × ℕ). v.1 < d) m ms h
+message-below d (m ∷ ms) (suc i) some h = message-below d ms i some (All-tail (λ (v : ℕ × ℕ). v.1 < d) m ms h)
+
+pub value-below : (d : ℕ) (m : Memory) (x p : ℕ) → 0 < d → All (λ v. v < d) m.initial → All (λ s. s.1 < d) m.messages → value_at m x p < d
+value-below d m x zero some h k = get-below d m.initial x some h
+value-below d m x (suc i) some h k = message-below d m.messages i some k
+
+-- the refusal of a cas without a choice
+pub cas_refusal : (d : ℕ) (n : Seen) (r : List ℕ) (a : Act) (c : Option ℕ) (q x : ℕ) (e f : Expr) (v spare : ℕ) (fault : StepFault) → a ≡ Cas q x e f → c ≡ None → v ≡ value r d e
+    → IsRefusal (λ g. ((last_value n.memory x ≢ v) × (g ≡ CasNotLast (last_value n.memory x))) ⊎ ((last_value n.memory x ≡ v) × IsFull n.memory × (g ≡ MessagesFull))) spare fault
+    → IsRefusal (RowFault d n r (out-Act a) c) spare fault
+cas_refusal d n r a c q x e f v spare fault is none same h =
+    let b = subst (λ (k : ℕ). IsRefusal (λ g. ((last_value n.memory x ≢ k) × (g ≡ CasNotLast (last_value n.memory x))) ⊎ ((last_value n.memory x ≡ k) × IsFull n.memory × (g ≡ MessagesFull))) spare fault) same h in
+    let o = subst (λ (k : Option ℕ). IsRefusal (RowFault d n r (opened.Cas q x e f) k) spare fault) (sym none) b in
+    subst (λ (k : opened.Act-F Act Stmt). IsRefusal (RowFault d n r k c) spare fault) (sym (ap out-Act is ∙ out_cas q x e f)) o

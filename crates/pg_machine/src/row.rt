@@ -7,6 +7,7 @@ ghost use Rattle.pg_program.specs.Graph.{target_of};
 ghost use Rattle.pg_program.specs.Expr.{reads};
 ghost use Rattle.pg_machine.specs.Step.{Row, leaves, act_of, branch_taken, bracket_done};
 ghost use Rattle.pg_machine.specs.Fault.{RowFault};
+ghost use Rattle.pg_machine.specs.declared.fault.TheConstants.{MAX_MESSAGES};
 ghost use Rattle.pg_machine.specs.Held.{seen_in, IsRefusal, AreSized, AreBelow, Does};
 
 use crate::access::{load, miss, store, swap};
@@ -30,8 +31,10 @@ pub fn run(
     requires locations { All (λ x. x < length memory.old.memory.initial) (locations_of stmt.now) }
     requires sizes { AreSized memory.old views.old }
     requires stored { AreBelow domain memory.old }
+    requires few { length memory.old.memory.messages ≤ MAX_MESSAGES }
     ensures ok { OnOk result (Does domain (seen_in memory.old views.old) scalars.old stmt.now choice (leaves (seen_in memory.new views.new) scalars.new)) }
     ensures err { IfErr result (λ f. IsRefusal (RowFault domain (seen_in memory.old views.old) scalars.old (act_of stmt.now) choice) memory.old.spare f) }
+    ensures within { length memory.new.memory.messages ≤ MAX_MESSAGES }
     ensures unchanged { OnErr result ((seen_in memory.new views.new ≡ seen_in memory.old views.old) × (scalars.new ≡ scalars.old)) }
     ensures spare { memory.old.spare + length memory.old.memory.messages ≤ memory.new.spare + length memory.new.memory.messages }
 {
@@ -55,9 +58,11 @@ pub fn act(
     requires locations { All (λ x. x < length memory.old.memory.initial) (locations_in (out-Act act.now)) }
     requires sizes { AreSized memory.old views.old }
     requires stored { AreBelow domain memory.old }
+    requires few { length memory.old.memory.messages ≤ MAX_MESSAGES }
     ensures ok { OnOk result (Row domain (seen_in memory.old views.old) scalars.old (out-Act act.now) choice (leaves (seen_in memory.new views.new) scalars.new)) }
     ensures err { IfErr result (λ f. IsRefusal (RowFault domain (seen_in memory.old views.old) scalars.old (out-Act act.now) choice) memory.old.spare f) }
     ensures values { All (λ v. v < domain) scalars.new }
+    ensures within { length memory.new.memory.messages ≤ MAX_MESSAGES }
     ensures unchanged { OnErr result ((seen_in memory.new views.new ≡ seen_in memory.old views.old) × (scalars.new ≡ scalars.old)) }
     ensures spare { memory.old.spare + length memory.old.memory.messages ≤ memory.new.spare + length memory.new.memory.messages }
 {

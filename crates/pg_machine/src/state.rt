@@ -1,12 +1,12 @@
 //! States of the machine, and the step that an event leads to.
 
 ghost use Rattle.std.specs.Prelude.{◌≡◌, ◌≢◌, ℕ, ◌+◌, ◌-◌, ◌<◌, ◌≤◌, length, replicate, slice_index, slice_index_or, Some, IfOk, IfErr, OnOk, OnErr};
-ghost use Rattle.pg_program.specs.Program.{points, stmt_at};
+ghost use Rattle.pg_program.specs.Program.{IsProgram, stmt_at};
 ghost use Rattle.pg_machine.specs.declared.fault.TheConstants.{MAX_MESSAGES};
 ghost use Rattle.pg_machine.specs.State.{fresh, fresh_views, point_of, coh_of, vpa_of, vpc_of, IsWellFormed};
 ghost use Rattle.pg_machine.specs.Step.{views_of, IsStep};
 ghost use Rattle.pg_machine.specs.Fault.{IsFault, ActFault};
-ghost use Rattle.pg_machine.specs.Held.{IsRefusal};
+ghost use Rattle.pg_machine.specs.Held.{IsRefusal, IsTaken};
 
 use crate::event::Event;
 use crate::fault::StepFault;
@@ -27,7 +27,9 @@ pub struct State {
 }
 
 impl Model for State {
+    ghost use Rattle.std.specs.Prelude.{◌≤◌, length};
     ghost use Rattle.pg_machine.specs.Held.{Held};
+    ghost use Rattle.pg_machine.specs.declared.fault.TheConstants.{MAX_MESSAGES};
 
     ghost Value = { Held };
 
@@ -35,6 +37,8 @@ impl Model for State {
         state = record { memory = s.memory.memory; views = s.views.items; scalars = s.scalars.items; points = s.points.items };
         spare = s.memory.spare;
     } };
+
+    ghost invariant = { λ s. length s.memory.memory.messages ≤ MAX_MESSAGES };
 }
 
 impl State {
@@ -149,6 +153,10 @@ impl State {
         requires { IsWellFormed p.now self.old.state }
         ensures ok { OnOk result (IsStep p.now self.old.state event self.new.state) }
         ensures err { IfErr result (λ f. IsRefusal (IsFault p.now self.old.state event) self.old.spare f) }
+        ensures kept { IsWellFormed p.now self.new.state }
+        ensures within { OnOk result (length self.new.state.memory.messages ≤ MAX_MESSAGES) }
+        ensures exact { (f : StepFault) → IsFault p.now self.old.state event f → result ≡ Err f }
+        ensures complete { IsTaken p.now self.old.state event result }
         ensures unchanged { OnErr result (self.new.state ≡ self.old.state) }
         ensures spare { self.old.spare + length self.old.state.memory.messages ≤ self.new.spare + length self.new.state.memory.messages }
     {
@@ -180,6 +188,8 @@ impl State {
         requires stmt { stmt_at p.now at.thread at.point ≡ Some stmt.now }
         ensures ok { OnOk result (IsStep p.now self.old.state (record { thread = at.thread; choice = choice }) self.new.state) }
         ensures err { IfErr result (λ f. IsRefusal (ActFault p.now self.old.state (record { thread = at.thread; choice = choice })) self.old.spare f) }
+        ensures within { length self.new.state.memory.messages ≤ MAX_MESSAGES }
+        ensures built { IsProgram p.now }
         ensures unchanged { OnErr result (self.new.state ≡ self.old.state) }
         ensures spare { self.old.spare + length self.old.state.memory.messages ≤ self.new.spare + length self.new.state.memory.messages }
     {
