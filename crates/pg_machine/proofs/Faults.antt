@@ -34,12 +34,12 @@ not-both true h k = false≢true h
 not-both false h k = false≢true k
 
 -- what a position that may be read is
-record IsReached (ms : List (ℕ × ℕ)) (x c n p : ℕ) : Type 0 where
+pub record IsReached (ms : List (ℕ × ℕ)) (x c n p : ℕ) : Type 0 where
   pub at : is_at ms x p ≡ true
   pub from : c ≤ p
   pub clear : is_clear ms x p n ≡ true
 
-is_reached : (ms : List (ℕ × ℕ)) (x c n p : ℕ) → reaches ms x c n p ≡ true → IsReached ms x c n p
+pub is_reached : (ms : List (ℕ × ℕ)) (x c n p : ℕ) → reaches ms x c n p ≡ true → IsReached ms x c n p
 is_reached ms x c n p h =
     let a = and_parts (is_at ms x p) (nat_le c p && is_clear ms x p n) h in
     let b = and_parts (nat_le c p) (is_clear ms x p n) a.1 in

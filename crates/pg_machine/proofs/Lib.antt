@@ -4,5 +4,5 @@ pub mod Uses
 pub mod Formed
 pub mod Taken
 pub mod Faults
-pub mod WellFormed
 pub mod ViewsKept
+pub mod WellFormed

@@ -136,7 +136,7 @@ bracket_names n (a ∷ rest) h =
 
 -- ---- values of the memory
 
-get-below : (d : ℕ) (xs : List ℕ) (i : ℕ) → 0 < d → All (λ v. v < d) xs → get_or xs i 0 < d
+pub get-below : (d : ℕ) (xs : List ℕ) (i : ℕ) → 0 < d → All (λ v. v < d) xs → get_or xs i 0 < d
 get-below d [] i some h = some
 get-below d (x ∷ xs) zero some h = All-head (λ (v : ℕ). v < d) x xs h
 get-below d (x ∷ xs) (suc i) some h = get-below d xs i some (All-tail (λ (v : ℕ). v < d) x xs h)

@@ -44,7 +44,8 @@ impl Model for State {
 impl State {
     /// The fresh state of a program: no message, and each thread at its first point.
     pub fn fresh(alloc: Global, p: &Program) -> Result<State, AllocError>
-        ensures { IfOk result (λ s. s.state ≡ fresh p.now) }
+        ensures state { IfOk result (λ s. s.state ≡ fresh p.now) }
+        ensures formed { IfOk result (λ s. IsWellFormed p.now s.state) }
     {
         let locations = usize::from(p.names().locations());
         let scalars = usize::from(p.names().scalars());
