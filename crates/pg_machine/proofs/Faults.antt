@@ -1,5 +1,5 @@
 -- An event has one fault at most, and where it has one it leads to no state within the limit of messages.
-use Rattle.std.proofs.Common.{rules, Result, Ok, Err, OnOk, IfErr, ◌≡◌, ◌≢◌, ℕ, zero, suc, ◌+◌, ◌<◌, ◌≤◌, ◌⊎◌, Bool, true, false, not, ◌&&◌, nat_le, List, [], ◌∷◌, ◌++◌, length, Option, Some, None, inl, inr, refl, sym, ap, ap₂, subst, ◌∙◌, arith}
+use Rattle.std.proofs.Common.{rules, Result, Ok, Err, OnOk, IfErr, ◌≡◌, ℕ, zero, suc, ◌<◌, ◌≤◌, ◌⊎◌, Bool, true, false, not, ◌&&◌, nat_le, List, [], ◌∷◌, ◌++◌, length, Option, Some, None, inl, inr, refl, sym, ap, ap₂, subst, ◌∙◌, arith}
 use Rattle.std.proofs.lemmas.Bool.{and_parts, leb-true, true≢false, false≢true, cases_order}
 use Rattle.pg_program.specs.declared.syntax.Stmt.{Stmt}
 use Rattle.pg_program.specs.declared.syntax.Act.{Act}
@@ -7,7 +7,7 @@ use Rattle.pg_program.specs.declared.syntax.Act.TheOpen.{Act-F, Assign, Store, L
 use Rattle.pg_program.specs.Program.{ProgramTable, stmt_at}
 use Rattle.pg_machine.specs.declared.event.Event.{Event}
 use Rattle.pg_machine.specs.declared.fault.StepFault.{StepFault}
-use Rattle.pg_machine.specs.declared.fault.StepFault.TheVariants.{NoThread, Ended, NoChoice, ChoiceMissing, NotAPosition, BelowCoherence, Hidden, CasMustDiffer, CasNotLast, MessagesFull, NoMemory}
+use Rattle.pg_machine.specs.declared.fault.StepFault.TheVariants.{NoThread, Ended, NotAPosition, BelowCoherence, Hidden, NoMemory}
 use Rattle.pg_machine.specs.declared.fault.TheConstants.{MAX_MESSAGES}
 use Rattle.pg_machine.specs.Memory.{is_at, every_below, hides, is_clear, reaches}
 use Rattle.pg_machine.specs.State.{State, coh_of, point_of}
@@ -59,10 +59,10 @@ choice-unread n x p b f h r = absurd h
 
 least_same : (ms : List (ℕ × ℕ)) (x p n q r : ℕ) → IsLeastHiding ms x p n q → IsLeastHiding ms x p n r → q ≡ r
 least_same ms x p n q r h k = elim (cases_order q r) [
-    | inl e ↦ e
-    | inr (inl less) ↦ absurd (true≢false (sym h.hiding ∙ k.least q less))
-    | inr (inr more) ↦ absurd (true≢false (sym k.hiding ∙ h.least r more))
-  ]
+  | inl e ↦ e
+  | inr (inl less) ↦ absurd (true≢false (sym h.hiding ∙ k.least q less))
+  | inr (inr more) ↦ absurd (true≢false (sym k.hiding ∙ h.least r more))
+]
 
 not_at : (n : Seen) (x p b : ℕ) → is_at n.memory.messages x p ≡ false → (g : StepFault) → ChoiceFault n x p b g → NotAPosition p ≡ g
 not_at n x p b off (NotAPosition q) k = ap NotAPosition (sym k.0)

@@ -1,11 +1,11 @@
 -- What a well-formed state of a program has for the statement at a point.
-use Rattle.std.proofs.Common.{rules, ◌≡◌, ℕ, ◌+◌, ◌<◌, ◌≤◌, Bool, true, false, cond, ◌&&◌, nat_le, List, [], ◌∷◌, length, map, replicate, get_or, Option, Some, None, IsSome, refl, sym, ap, subst, ◌∙◌, arith}
+use Rattle.std.proofs.Common.{rules, ◌≡◌, ℕ, ◌<◌, ◌≤◌, Bool, true, false, cond, ◌&&◌, nat_le, List, [], ◌∷◌, length, map, replicate, Some, None, IsSome, refl, sym, ap, subst, ◌∙◌, arith}
 use Rattle.std.specs.List.{All}
 use Rattle.std.proofs.lemmas.Bool.{leb-true}
 use Rattle.std.proofs.lemmas.List.{length-map}
 use Rattle.std.proofs.lemmas.List.Elements.{All-weaker}
-use Rattle.pg_program.specs.declared.syntax.Stmt.{Stmt, out-Stmt}
-use Rattle.pg_program.specs.declared.syntax.Act.{Act, out-Act}
+use Rattle.pg_program.specs.declared.syntax.Stmt.{Stmt}
+use Rattle.pg_program.specs.declared.syntax.Act.{Act}
 use Rattle.pg_program.specs.declared.syntax.Act.TheOpen.{Act-F, Assign, Store, Load, Cas, Mfence, Sfence, Flush, Flushopt, If, While}
 use Rattle.pg_program.specs.declared.point.Branch.{Branch}
 use Rattle.pg_program.specs.declared.point.Branch.TheVariants.{Plain, Yes, No}

@@ -34,9 +34,9 @@ is_at-behind ms x (suc i) lt = is_to-behind ms x i (omega arith)
 
 pub is_at-within : (ms : List (ℕ × ℕ)) (x p : ℕ) → is_at ms x p ≡ true → p ≤ length ms
 is_at-within ms x p h = elim (cases_lt (length ms) p) [
-    | inl lt ↦ absurd (true≢false (sym h ∙ is_at-behind ms x p lt))
-    | inr le ↦ le
-  ]
+  | inl lt ↦ absurd (true≢false (sym h ∙ is_at-behind ms x p lt))
+  | inr le ↦ le
+]
 
 pub last_upto-within : (ms : List (ℕ × ℕ)) (x n : ℕ) → last_upto ms x n ≤ n
 last_upto-within ms x zero = omega arith

@@ -1,5 +1,5 @@
 -- A step that is taken in parts is a step of the state.
-use Rattle.std.proofs.Common.{◌≡◌, ℕ, zero, suc, ◌+◌, ◌-◌, ◌<◌, ◌≤◌, List, [], ◌∷◌, ◌++◌, length, take, drop, get_or, set, Option, Some, inl, inr, refl, sym, ap, subst, ◌∙◌, arith}
+use Rattle.std.proofs.Common.{◌≡◌, ℕ, zero, suc, ◌-◌, ◌<◌, ◌≤◌, List, [], ◌∷◌, ◌++◌, length, take, drop, get_or, set, Option, Some, inl, inr, refl, sym, ap, subst, ◌∙◌, arith}
 use Rattle.pg_program.specs.declared.syntax.Stmt.{Stmt}
 use Rattle.pg_program.specs.declared.point.Branch.{Branch}
 use Rattle.pg_program.specs.declared.point.Step.{Step}
@@ -53,7 +53,7 @@ taken p s t k stmt d m w r choice b q steps target after h does qs bs ss leads =
     let c = subst (λ (n : Seen). Does p.names.domain n r stmt choice after) seen a in
     let does' = subst (λ (l : List ℕ). Does p.names.domain (seen_by s t) l stmt choice after) h.scalars c in
     let branch : b ≡ branch_taken p.names.domain s.scalars (act_of stmt) =
-        bs ∙ (ap (λ (n : ℕ). branch_taken n q (act_of stmt)) h.domain ∙ ap (λ (l : List ℕ). branch_taken p.names.domain l (act_of stmt)) qs) in
+    bs ∙ (ap (λ (n : ℕ). branch_taken n q (act_of stmt)) h.domain ∙ ap (λ (l : List ℕ). branch_taken p.names.domain l (act_of stmt)) qs) in
     let at : steps ≡ steps_at p t (point_of s t) = ss ∙ ap (steps_at p t) h.point in
     record {
       thread = (h.low, h.high);

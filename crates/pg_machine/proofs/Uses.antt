@@ -1,5 +1,5 @@
 -- The scalars and locations that an act uses.
-use Rattle.std.proofs.Common.{◌≡◌, ◌≢◌, ℕ, zero, suc, get_or, Option, None, ◌+◌, ◌<◌, ◌⊎◌, inl, inr, Bool, true, false, cond, List, [], ◌∷◌, ◌++◌, set, refl, sym, ap, subst, ◌∙◌}
+use Rattle.std.proofs.Common.{◌≡◌, ◌≢◌, ℕ, zero, suc, get_or, Option, None, ◌<◌, ◌⊎◌, cond, List, [], ◌∷◌, ◌++◌, set, refl, sym, ap, subst, ◌∙◌}
 use Rattle.std.specs.List.{All}
 use Rattle.std.proofs.lemmas.List.Elements.{All-nil, All-cons, All-head, All-tail}
 use Rattle.pg_program.specs.declared.syntax.Expr.{Expr}
@@ -8,7 +8,6 @@ use Rattle.pg_program.specs.declared.syntax.AuxAssign.{AuxAssign}
 use Rattle.pg_program.specs.declared.syntax.Stmt.{Stmt}
 use Rattle.pg_program.specs.declared.syntax.Act.{Act, out-Act, Assign, Store, Cas, If, While}
 use Rattle.pg_program.specs.declared.syntax.Act.TheOpen as opened
-use Rattle.pg_program.specs.declared.point.Branch.{Branch}
 use Rattle.pg_program.specs.declared.point.Branch.TheVariants.{Yes, No}
 use Rattle.pg_program.specs.Fault.{outside_in, locations_in, bracket_scalars}
 use Rattle.pg_program.specs.Expr.{reads, value, test_holds}

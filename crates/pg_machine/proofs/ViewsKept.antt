@@ -1,13 +1,13 @@
 -- What each move keeps of a thread's views, and of those of the others.
-use Rattle.std.proofs.Common.{◌≡◌, ℕ, zero, suc, ◌+◌, ◌-◌, ◌<◌, ◌≤◌, ◌==◌, max, Bool, true, false, cond, List, [], ◌∷◌, ◌++◌, length, replicate, get_or, set, inl, inr, refl, sym, ap, subst, ◌∙◌, arith}
+use Rattle.std.proofs.Common.{◌≡◌, ℕ, zero, suc, ◌+◌, ◌<◌, ◌≤◌, ◌==◌, max, Bool, true, false, cond, List, [], ◌∷◌, ◌++◌, length, replicate, get_or, set, inl, inr, refl, sym, ap, ◌∙◌, arith}
 use Rattle.std.specs.List.{All}
 use Rattle.std.proofs.Math.Nat.{le-max_left, le-max_right, max-le}
-use Rattle.std.proofs.lemmas.Bool.{cases_eq, eqb-false, eqb-true}
+use Rattle.std.proofs.lemmas.Bool.{cases_eq, eqb-false}
 use Rattle.std.proofs.lemmas.List.{length-set, length-replicate, get_or-replicate, get_or-set_same, get_or-set_other}
 use Rattle.std.proofs.lemmas.List.Elements.{All-nil, All-cons, All-head, All-tail, All-weaker, All-set, All-replicate}
 use Rattle.pg_machine.specs.Memory.{Memory, is_to, is_at, message_appended}
 use Rattle.pg_machine.specs.State.{Views, greatest, coh_of, vpa_of, vpc_of, maxcoh, ordered, AreViews, fresh_views}
-use Rattle.pg_machine.specs.Moves.{greater, vpa_raised, vpc_raised, written_back, store_seen, load_seen, mfence_seen, sfence_seen, flush_seen, flushopt_seen, swap_seen}
+use Rattle.pg_machine.specs.Moves.{greater, store_seen, load_seen, mfence_seen, sfence_seen, flush_seen, flushopt_seen, swap_seen}
 use Rattle.pg_machine.proofs.Scan.{greater-length}
 
 -- ---- messages
@@ -139,15 +139,15 @@ coherent-moved : (m : Memory) (coh : List ℕ) (x p : ℕ) → ((y : ℕ) → y 
     → length coh ≡ length m.initial → x < length m.initial → p ≤ length m.messages → is_at m.messages x p ≡ true
     → (y : ℕ) → y < length m.initial → (get_or (set coh x p) y 0 ≤ length m.messages) × (is_at m.messages y (get_or (set coh x p) y 0) ≡ true)
 coherent-moved m coh x p h size inside le at y lt = elim (cases_eq y x) [
-    | inl e ↦
-        let here : get_or (set coh x p) y 0 ≡ p = ap (λ (z : ℕ). get_or (set coh x p) z 0) e ∙ get_or-set_same coh x p 0 (omega (arith, size, inside)) in
-        (omega (arith, here, le), ap (λ (z : ℕ). is_at m.messages y z) here ∙ (ap (λ (z : ℕ). is_at m.messages z p) e ∙ at))
-    | inr ne ↦
-        let there : get_or (set coh x p) y 0 ≡ get_or coh y 0 = get_or-set_other coh x y p 0 ne in
-        let before = h y lt in
-        let low = before.0 in
-        (omega (arith, there, low), ap (λ (z : ℕ). is_at m.messages y z) there ∙ before.1)
-  ]
+  | inl e ↦
+      let here : get_or (set coh x p) y 0 ≡ p = ap (λ (z : ℕ). get_or (set coh x p) z 0) e ∙ get_or-set_same coh x p 0 (omega (arith, size, inside)) in
+      (omega (arith, here, le), ap (λ (z : ℕ). is_at m.messages y z) here ∙ (ap (λ (z : ℕ). is_at m.messages z p) e ∙ at))
+  | inr ne ↦
+      let there : get_or (set coh x p) y 0 ≡ get_or coh y 0 = get_or-set_other coh x y p 0 ne in
+      let before = h y lt in
+      let low = before.0 in
+      (omega (arith, there, low), ap (λ (z : ℕ). is_at m.messages y z) there ∙ before.1)
+]
 
 cond-within : (b : Bool) (a p m : ℕ) → a ≤ m → p ≤ m → cond b a (max a p) ≤ m
 cond-within true a p m h k = h

@@ -1,5 +1,5 @@
 -- The fresh state is well formed, and a step keeps a state so.
-use Rattle.std.proofs.Common.{◌≡◌, ℕ, zero, suc, ◌+◌, ◌-◌, ◌<◌, ◌≤◌, ◌%◌, Bool, true, false, cond, List, [], ◌∷◌, ◌++◌, length, map, get_or, set, Option, Some, None, Result, Ok, Err, OnOk, OnErr, inl, inr, refl, sym, ap, subst, ◌∙◌, arith}
+use Rattle.std.proofs.Common.{◌≡◌, ℕ, zero, suc, ◌+◌, ◌-◌, ◌<◌, ◌≤◌, Bool, true, false, cond, List, [], ◌∷◌, length, map, get_or, set, Option, Some, None, Result, Ok, Err, OnOk, OnErr, inl, inr, refl, sym, ap, subst, ◌∙◌, arith}
 use Rattle.std.specs.List.{All}
 use Rattle.std.proofs.lemmas.Bool.{cases_eq}
 use Rattle.std.proofs.lemmas.List.{length-map, length-set, get_or-set_same, get_or-set_other}
@@ -23,10 +23,10 @@ use Rattle.pg_program.proofs.ProgramLemmas.{has_values, initial_inside}
 use Rattle.pg_program.proofs.GraphLaws.{steps_lead_within}
 use Rattle.pg_machine.specs.declared.event.Event.{Event}
 use Rattle.pg_machine.specs.declared.fault.StepFault.{StepFault}
-use Rattle.pg_machine.specs.Memory.{Memory, value_at, last_value, message_appended}
+use Rattle.pg_machine.specs.Memory.{Memory, value_at, message_appended}
 use Rattle.pg_machine.specs.State.{Views, State, coh_of, point_of, AreViews, IsMemory, IsWellFormed, fresh, fresh_views}
-use Rattle.pg_machine.specs.Moves.{Seen, can_read, mfence_seen, sfence_seen, flush_seen, flushopt_seen, load_seen, store_seen, swap_seen, stored, loaded, fenced, swapped, SwapIsStoreThenFence}
-use Rattle.pg_machine.specs.Step.{Left, leaves, Row, act_of, bracket_of, bracket_done, assigned, branch_taken, views_of, seen_by, moved, IsStep}
+use Rattle.pg_machine.specs.Moves.{Seen, can_read, mfence_seen, sfence_seen, flush_seen, flushopt_seen, load_seen, store_seen, swap_seen, fenced, SwapIsStoreThenFence}
+use Rattle.pg_machine.specs.Step.{Left, leaves, Row, act_of, bracket_of, bracket_done, assigned, branch_taken, seen_by, moved, IsStep}
 use Rattle.pg_machine.proofs.Scan.{is_at-within}
 use Rattle.pg_machine.proofs.Uses.{value-below, get-below}
 use Rattle.pg_machine.proofs.Faults.{is_reached}
@@ -173,7 +173,7 @@ row_keeps names n r (Cas q x e f) None left h locs row =
     let u = value r names.domain e in
     subst (Keeps names n r) (sym row.1)
     (appends names n r (set r q u) (swap_seen n.views x (length n.memory.messages + 1)) x v h inside (value-inside names.domain r f h.some h.values) (swap_views n x v h.own inside)
-      (length-set r q u) (All-set (λ (k : ℕ). k < names.domain) r q u (value-inside names.domain r e h.some h.values) h.values))
+    (length-set r q u) (All-set (λ (k : ℕ). k < names.domain) r q u (value-inside names.domain r e h.some h.values) h.values))
 row_keeps names n r (Cas q x e f) (Some p) left h locs row =
     let inside = All-head (λ (y : ℕ). y < length n.memory.initial) x [] locs in
     subst (Keeps names n r) (sym row.2) (moves-set names n r (mfence_seen (load_seen (mfence_seen n.views) x p)) q (value_at n.memory x p) h (miss_views n x p h.own inside row.0) (read-inside names n r x p h))

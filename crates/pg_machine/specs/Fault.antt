@@ -7,7 +7,7 @@ use Rattle.pg_program.specs.Expr.{value}
 use Rattle.pg_program.specs.Program.{ProgramTable, stmt_at}
 use Rattle.pg_machine.specs.declared.event.Event.{Event}
 use Rattle.pg_machine.specs.declared.fault.StepFault.{StepFault}
-use Rattle.pg_machine.specs.declared.fault.StepFault.TheVariants.{NoThread, Ended, NoChoice, ChoiceMissing, NotAPosition, BelowCoherence, Hidden, CasMustDiffer, CasNotLast, MessagesFull, NoMemory}
+use Rattle.pg_machine.specs.declared.fault.StepFault.TheVariants.{NoThread, Ended, NoChoice, ChoiceMissing, NotAPosition, BelowCoherence, Hidden, CasMustDiffer, CasNotLast, MessagesFull}
 use Rattle.pg_machine.specs.declared.fault.TheConstants.{MAX_MESSAGES}
 use Rattle.pg_machine.specs.Memory.{Memory, is_at, hides, value_at, last_value}
 use Rattle.pg_machine.specs.State.{State, coh_of, maxcoh, point_of}

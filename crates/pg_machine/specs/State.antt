@@ -1,5 +1,5 @@
 -- States of the machine, and the well-formed ones.
-use Rattle.std.specs.Prelude.{◌≡◌, ℕ, ◌-◌, ◌+◌, ◌<◌, ◌≤◌, max, true, List, [], ◌∷◌, length, map, All, replicate, slice_index}
+use Rattle.std.specs.Prelude.{◌≡◌, ℕ, ◌-◌, ◌<◌, ◌≤◌, max, true, List, [], ◌∷◌, length, map, All, replicate, slice_index}
 use Rattle.pg_program.specs.NameTable.{NameTable, initial}
 use Rattle.pg_program.specs.Program.{ProgramTable, IsProgram, points as last_point}
 use Rattle.pg_machine.specs.Memory.{Memory, is_at}

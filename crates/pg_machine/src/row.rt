@@ -159,7 +159,8 @@ pub fn assign(bracket: &[AuxAssign], domain: u32, scalars: &mut [u8])
     requires values { All (λ v. v < domain) scalars.old }
     requires targets { All (λ a. a.target < length scalars.old) bracket.now }
     requires names { All (λ a. All (λ r. r < length scalars.old) (reads a.expr)) bracket.now }
-    ensures { scalars.new ≡ bracket_done domain bracket.now scalars.old }
+    ensures together { scalars.new ≡ bracket_done domain bracket.now scalars.old }
+    ensures values { All (λ v. v < domain) scalars.new }
 {
     if let [rest @ .., last] = bracket {
         let value = eval(&last.expr, scalars, domain);

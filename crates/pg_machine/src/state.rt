@@ -34,8 +34,8 @@ impl Model for State {
     ghost Value = { Held };
 
     ghost view = { λ s. record {
-        state = record { memory = s.memory.memory; views = s.views.items; scalars = s.scalars.items; points = s.points.items };
-        spare = s.memory.spare;
+      state = record { memory = s.memory.memory; views = s.views.items; scalars = s.scalars.items; points = s.points.items };
+      spare = s.memory.spare;
     } };
 
     ghost invariant = { λ s. length s.memory.memory.messages ≤ MAX_MESSAGES };
@@ -199,7 +199,14 @@ impl State {
         let target = target(p.steps(at), branch);
         let t = usize::from(at.thread) - 1;
         let views = &mut self.views[t];
-        run(stmt, choice, domain, &mut self.memory, views, &mut self.scalars)?;
+        run(
+            stmt,
+            choice,
+            domain,
+            &mut self.memory,
+            views,
+            &mut self.scalars,
+        )?;
         self.points[t] = target;
         Ok(())
     }

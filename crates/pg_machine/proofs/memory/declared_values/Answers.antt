@@ -1,4 +1,4 @@
-use Rattle.std.proofs.Common.{◌≡◌, ℕ, ◌<◌, List, [], ◌∷◌, ◌++◌, take, get_or, sym, ap, ◌∙◌, arith}
+use Rattle.std.proofs.Common.{ℕ, ◌<◌, List, [], ◌∷◌, ◌++◌, take, get_or, sym, ap, ◌∙◌, arith}
 use Rattle.pg_program.specs.NameTable.{initial}
 use Rattle.pg_machine.proofs.Made.{second_of, take-next}
 use Rattle.pg_machine.proofs.memory.declared_values.Goals as goal

@@ -1,4 +1,4 @@
-use Rattle.std.proofs.Common.{◌<◌, length, inl, inr, arith}
+use Rattle.std.proofs.Common.{length, inl, inr, arith}
 use Rattle.std.proofs.lemmas.Bool.{cases_lt}
 use Rattle.pg_machine.proofs.Scan.{is_at-behind, is_clear-none, hides-above, hides-other}
 use Rattle.pg_machine.proofs.messages.hiding.Goals as goal

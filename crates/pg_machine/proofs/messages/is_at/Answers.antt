@@ -1,4 +1,4 @@
-use Rattle.std.proofs.Common.{◌<◌, ◌-◌, sym, ◌∙◌, arith}
+use Rattle.std.proofs.Common.{◌-◌, sym, ◌∙◌, arith}
 use Rattle.std.proofs.lemmas.Bool.{le-ltb}
 use Rattle.pg_machine.proofs.Scan.{is_at-message, is_to-get, is_to-behind}
 use Rattle.pg_machine.proofs.messages.is_at.Goals as goal

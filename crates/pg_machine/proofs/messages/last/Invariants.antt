@@ -1,4 +1,4 @@
-use Rattle.std.proofs.Common.{◌≡◌, ◌≤◌, length}
+use Rattle.std.proofs.Common.{◌≡◌}
 use Rattle.pg_machine.specs.Memory.{last_upto}
 use Rattle.pg_machine.proofs.messages.last.Given as goal
 

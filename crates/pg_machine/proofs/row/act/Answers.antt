@@ -1,4 +1,4 @@
-use Rattle.std.proofs.Common.{◌≡◌, ◌<◌, ℕ, length, sym, subst, ◌∙◌, arith}
+use Rattle.std.proofs.Common.{◌<◌, ℕ, length, arith}
 use Rattle.std.proofs.lemmas.List.Elements.{All-set}
 use Rattle.std.proofs.lemmas.Result.{err_from_is_err_and}
 use Rattle.pg_machine.specs.Held.{seen_in}
@@ -63,4 +63,4 @@ returns-in_err-swap-in-Cas-None-clause-err c =
     let q = err_from_is_err_and c.from_residual-in_err-swap-in-Cas-None.result c.from_residual-in_err-swap-in-Cas-None.ensures.1 in
     rw (q.1, q.2)
     (cas_refusal c.args.domain (seen_in c.args.memory.now c.args.views.now) c.args.scalars.now c.args.act.now c.args.choice c.in-Cas-None.target c.in-Cas-None.location c.in-Cas-None.expected c.in-Cas-None.desired
-      c.eval-last.result c.args.memory.now.spare c.in_err-swap-in-Cas-None.field-0.0 c.in-Cas-None.is-0 c.in-Cas-None.is-1 c.eval-last.ensures.value c.in_err-swap-in-Cas-None.ensures.err)
+    c.eval-last.result c.args.memory.now.spare c.in_err-swap-in-Cas-None.field-0.0 c.in-Cas-None.is-0 c.in-Cas-None.is-1 c.eval-last.ensures.value c.in_err-swap-in-Cas-None.ensures.err)

@@ -1,4 +1,4 @@
-use Rattle.std.proofs.Common.{◌≡◌, Bool, cond, length, sym, ap, ◌∙◌}
+use Rattle.std.proofs.Common.{Bool, cond, length, sym, ap, ◌∙◌}
 use Rattle.pg_program.specs.declared.point.Branch.TheVariants.{Yes, No}
 use Rattle.pg_machine.proofs.Uses.{if_uses, while_uses, if_takes, while_takes}
 use Rattle.pg_machine.proofs.row.branch_taken.Goals as goal

@@ -1,4 +1,4 @@
-use Rattle.std.proofs.Common.{◌≡◌, ℕ, ◌<◌, List, length, sym, subst}
+use Rattle.std.proofs.Common.{ℕ, ◌<◌, List, length, sym, subst}
 use Rattle.std.specs.List.{All}
 use Rattle.pg_program.specs.declared.syntax.AuxAssign.{AuxAssign}
 use Rattle.pg_program.specs.Expr.{reads}

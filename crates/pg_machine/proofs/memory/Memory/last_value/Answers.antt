@@ -1,4 +1,4 @@
-use Rattle.std.proofs.Common.{◌≡◌, ℕ, ◌≤◌, List, length, sym, ap, subst, ◌∙◌}
+use Rattle.std.proofs.Common.{◌≡◌, ℕ, ◌≤◌, List, length, sym, subst, ◌∙◌}
 use Rattle.pg_machine.proofs.Scan.{last_upto-within}
 use Rattle.pg_machine.proofs.memory.Memory.last_value.Goals as goal
 

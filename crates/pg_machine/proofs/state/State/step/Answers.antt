@@ -1,5 +1,4 @@
-use Rattle.std.proofs.Common.{◌≡◌, ℕ, Option, Some, ap, sym, ◌∙◌, arith}
-use Rattle.pg_program.specs.declared.syntax.Stmt.{Stmt}
+use Rattle.std.proofs.Common.{◌≡◌, Some, ap, sym, ◌∙◌, arith}
 use Rattle.pg_program.specs.Program.{stmt_at}
 use Rattle.pg_machine.specs.State.{point_of}
 use Rattle.pg_machine.proofs.Faults.{Answered, answers_exactly, answers_steps}
@@ -17,7 +16,7 @@ returns-in-Some-clause-exact c =
     let count = c.from.ensures in
     let threads = c.threads.ensures in
     let at : stmt_at c.args.p.now c.args.event.thread (point_of c.args.self.now.state c.args.event.thread) ≡ Some c.in-Some.stmt.now =
-        ap (stmt_at c.args.p.now c.args.event.thread) (sym c.point.ensures) ∙ sym c.in-Some.ensures in
+    ap (stmt_at c.args.p.now c.args.event.thread) (sym c.point.ensures) ∙ sym c.in-Some.ensures in
     let answered : Answered c.args.p.now c.args.self.now.state c.args.event c.take.new.self.state c.args.self.now.spare c.take.result = record {
       thread = (omega arith, omega (arith, high, count, threads));
       stmt = c.in-Some.stmt.now;
@@ -35,7 +34,7 @@ returns-in-Some-clause-complete c =
     let count = c.from.ensures in
     let threads = c.threads.ensures in
     let at : stmt_at c.args.p.now c.args.event.thread (point_of c.args.self.now.state c.args.event.thread) ≡ Some c.in-Some.stmt.now =
-        ap (stmt_at c.args.p.now c.args.event.thread) (sym c.point.ensures) ∙ sym c.in-Some.ensures in
+    ap (stmt_at c.args.p.now c.args.event.thread) (sym c.point.ensures) ∙ sym c.in-Some.ensures in
     let answered : Answered c.args.p.now c.args.self.now.state c.args.event c.take.new.self.state c.args.self.now.spare c.take.result = record {
       thread = (omega arith, omega (arith, high, count, threads));
       stmt = c.in-Some.stmt.now;

@@ -1,12 +1,11 @@
-use Rattle.std.proofs.Common.{◌≡◌, ℕ, ◌<◌, ◌-◌, Option, Some, None, IsSome, List, length, get_or, inl, inr, sym, ap, subst, ◌∙◌, arith}
+use Rattle.std.proofs.Common.{ℕ, ◌<◌, IsSome, List, length, sym, ap, subst, ◌∙◌}
 use Rattle.std.specs.List.{All}
 use Rattle.pg_program.specs.declared.point.Branch.{Branch}
 use Rattle.pg_program.specs.declared.point.Step.{Step}
 use Rattle.pg_program.specs.Fault.{outside, scalars_of, locations_of}
 use Rattle.pg_program.specs.Graph.{target_of}
-use Rattle.pg_program.specs.Program.{steps_at}
-use Rattle.pg_machine.specs.State.{Views, State}
-use Rattle.pg_machine.specs.Step.{leaves, act_of, branch_taken, views_of, IsStep}
+use Rattle.pg_machine.specs.State.{State}
+use Rattle.pg_machine.specs.Step.{leaves, act_of, branch_taken, IsStep}
 use Rattle.pg_machine.specs.Held.{Held, seen_in}
 use Rattle.pg_machine.proofs.Formed.{leads_on, act_scalars, stmt_scalars, stmt_locations}
 use Rattle.pg_machine.proofs.Taken.{taken, refusal, parts_of, same_state, refill}
@@ -41,29 +40,29 @@ run-requires-clause-locations c =
 pub returns-in_err-run-clause-err : goal.returns-in_err-run-clause-err
 returns-in_err-run-clause-err c =
     let parts =
-        parts_of c.args.p.now c.args.self.now c.self.inside.memory c.self.inside.views.items c.self.inside.scalars.items c.self.inside.points.items c.names.result.now
-          c.args.at.thread c.args.at.point c.from-t.result c.domain-domain.result c.args.stmt.now c.index_mut-views.result.now c.deref_mut.result.now
-          c.self.view_is c.requires.thread.0 c.requires.thread.1 c.requires.formed.threads c.requires.point c.requires.stmt c.domain-domain.ensures c.names.ensures.names c.from-t.ensures c.index_mut-views.ensures.value c.deref_mut.ensures.value in
+    parts_of c.args.p.now c.args.self.now c.self.inside.memory c.self.inside.views.items c.self.inside.scalars.items c.self.inside.points.items c.names.result.now
+    c.args.at.thread c.args.at.point c.from-t.result c.domain-domain.result c.args.stmt.now c.index_mut-views.result.now c.deref_mut.result.now
+    c.self.view_is c.requires.thread.0 c.requires.thread.1 c.requires.formed.threads c.requires.point c.requires.stmt c.domain-domain.ensures c.names.ensures.names c.from-t.ensures c.index_mut-views.ensures.value c.deref_mut.ensures.value in
     let q = err_from_is_err_and c.from_residual.result c.from_residual.ensures.1 in
     rw (q.1, q.2)
     (refusal c.args.p.now c.args.self.now c.args.at.thread c.args.at.point c.args.stmt.now c.domain-domain.result c.self.inside.memory c.index_mut-views.result.now c.deref_mut.result.now c.args.choice c.in_err-run.field-0.0
-      parts (ap (λ (h : Held). h.spare) c.self.view_is) c.in_err-run.ensures.err)
+    parts (ap (λ (h : Held). h.spare) c.self.view_is) c.in_err-run.ensures.err)
 
 pub returns-clause-ok : goal.returns-clause-ok
 returns-clause-ok c =
     let s = c.args.self.now.state in
     let t = c.args.at.thread in
     let parts =
-        parts_of c.args.p.now c.args.self.now c.self.inside.memory c.self.inside.views.items c.self.inside.scalars.items c.self.inside.points.items c.names.result.now
-          c.args.at.thread c.args.at.point c.from-t.result c.domain-domain.result c.args.stmt.now c.index_mut-views.result.now c.deref_mut.result.now
-          c.self.view_is c.requires.thread.0 c.requires.thread.1 c.requires.formed.threads c.requires.point c.requires.stmt c.domain-domain.ensures c.names.ensures.names c.from-t.ensures c.index_mut-views.ensures.value c.deref_mut.ensures.value in
+    parts_of c.args.p.now c.args.self.now c.self.inside.memory c.self.inside.views.items c.self.inside.scalars.items c.self.inside.points.items c.names.result.now
+    c.args.at.thread c.args.at.point c.from-t.result c.domain-domain.result c.args.stmt.now c.index_mut-views.result.now c.deref_mut.result.now
+    c.self.view_is c.requires.thread.0 c.requires.thread.1 c.requires.formed.threads c.requires.point c.requires.stmt c.domain-domain.ensures c.names.ensures.names c.from-t.ensures c.index_mut-views.ensures.value c.deref_mut.ensures.value in
     let scalars = ap (λ (h : Held). h.state.scalars) c.self.view_is in
     let after = leaves (seen_in c.run.new.memory c.run.new.views) c.run.new.scalars in
     let step = taken c.args.p.now s t c.args.at.point c.args.stmt.now c.domain-domain.result c.self.inside.memory c.index_mut-views.result.now c.deref_mut.result.now c.args.choice
-        c.branch_taken-branch.result c.deref.result.now c.steps.result.now c.target-target.result after
-        parts c.in_ok-run.ensures.ok (c.deref.ensures.value ∙ scalars) c.branch_taken-branch.ensures c.steps.ensures c.target-target.ensures in
+    c.branch_taken-branch.result c.deref.result.now c.steps.result.now c.target-target.result after
+    parts c.in_ok-run.ensures.ok (c.deref.ensures.value ∙ scalars) c.branch_taken-branch.ensures c.steps.ensures c.target-target.ensures in
     subst (λ (n : State). IsStep c.args.p.now s (record { thread = t; choice = c.args.choice }) n)
     (same_state s t c.run.new.memory.memory c.run.new.views _ c.run.new.scalars c.self.inside.views.items c.self.inside.points.items c.from-t.result c.target-target.result
-      (ap (λ (h : Held). h.state.views) c.self.view_is) (ap (λ (h : Held). h.state.points) c.self.view_is) c.from-t.ensures
-      (refill c.self.inside.scalars.len c.run.new.scalars c.self.inside.scalars.items (c.run.auto.scalars ∙ c.deref_mut.ensures.len)))
+    (ap (λ (h : Held). h.state.views) c.self.view_is) (ap (λ (h : Held). h.state.points) c.self.view_is) c.from-t.ensures
+    (refill c.self.inside.scalars.len c.run.new.scalars c.self.inside.scalars.items (c.run.auto.scalars ∙ c.deref_mut.ensures.len)))
     step
