@@ -1,2 +1,9 @@
 pub mod Scan
 pub mod Made
+pub mod Appended
+pub mod ViewLaws
+pub mod CasLaws
+pub mod Steps
+pub mod WellFormed
+pub mod Faults
+pub mod StoreSteps
