@@ -23,7 +23,7 @@ pub length-appended : (ms : List (ℕ × ℕ)) (m : ℕ × ℕ) → length (ms +
 length-appended [] m = refl
 length-appended (a ∷ ms) m = ap suc (length-appended ms m)
 
-last_upto-front : (ms : List (ℕ × ℕ)) (m : ℕ × ℕ) (y n : ℕ) → n ≤ length ms → last_upto (ms ++ m ∷ []) y n ≡ last_upto ms y n
+pub last_upto-front : (ms : List (ℕ × ℕ)) (m : ℕ × ℕ) (y n : ℕ) → n ≤ length ms → last_upto (ms ++ m ∷ []) y n ≡ last_upto ms y n
 last_upto-front ms m y zero lt = refl
 last_upto-front ms m y (suc n) lt =
     ap (λ (b : Bool). cond b (suc n) (last_upto (ms ++ m ∷ []) y n)) (is_to-front ms m y n (omega arith))

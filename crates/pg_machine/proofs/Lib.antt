@@ -7,3 +7,4 @@ pub mod Steps
 pub mod WellFormed
 pub mod Faults
 pub mod StoreSteps
+pub mod Reached
