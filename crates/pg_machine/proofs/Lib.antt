@@ -8,3 +8,4 @@ pub mod WellFormed
 pub mod Faults
 pub mod StoreSteps
 pub mod Reached
+pub mod Moved

@@ -8,6 +8,7 @@ use Rattle.pg_machine.specs.State.{Views, coh_of, AreViews}
 use Rattle.pg_machine.specs.Moves.{Seen, load_seen, loaded, can_read}
 use Rattle.pg_machine.proofs.Appended.{same_number, is_to-front, is_to-new, length-appended, last_upto-front, last_upto-within}
 use Rattle.pg_machine.proofs.Scan.{is_at-within, is_clear-none, hides-here, hides-other, hides-below, hides-above}
+use Rattle.pg_machine.proofs.ViewLaws.{set-grows, coh-at}
 use Rattle.pg_machine.proofs.Faults.{hidden-clear}
 
 -- ---- the last position up to n
@@ -155,14 +156,6 @@ last-alone ms x c n le = λ q h.
 
 -- ---- loads
 
--- a coherence view that grows leaves none less
-pub set-grows : (coh : List ℕ) (x p y : ℕ) → get_or coh x 0 ≤ p → get_or coh y 0 ≤ get_or (set coh x p) y 0
-set-grows [] x p y le = omega arith
-set-grows (c ∷ coh) zero p zero le = le
-set-grows (c ∷ coh) zero p (suc y) le = omega arith
-set-grows (c ∷ coh) (suc x) p zero le = omega arith
-set-grows (c ∷ coh) (suc x) p (suc y) le = set-grows coh x p y le
-
 -- the read view after a load, and the ready view: the view n and the position p that is loaded
 after-load : (b : Bool) (n p : ℕ) → n ≤ cond b n (max n p)
 after-load true n p = omega arith
@@ -242,9 +235,9 @@ load-least-reads n x p read is y q =
         ∙ ap (λ (z : ℕ). reaches ms z (coh_of n.views z) r q) (sym e)))
 
 -- where one position of x alone may be read, to load it changes nothing of what may be read
-pub load-alone : (n : Seen) (x p : ℕ) → AreViews n.memory n.views → x < length n.memory.initial → ((q : ℕ) → can_read n x q ≡ true → q ≡ p) → (y q : ℕ) → can_read (loaded n x p) y q ≡ can_read n y q
-load-alone n x p h inside alone =
-    load-least-reads n x p h.read (alone-least n.memory.messages x (coh_of n.views x) n.views.vrn p (h.coherent x inside).1 alone)
+pub load-alone : (n : Seen) (x p : ℕ) → AreViews n.memory n.views → ((q : ℕ) → can_read n x q ≡ true → q ≡ p) → (y q : ℕ) → can_read (loaded n x p) y q ≡ can_read n y q
+load-alone n x p h alone =
+    load-least-reads n x p h.read (alone-least n.memory.messages x (coh_of n.views x) n.views.vrn p (coh-at n.memory n.views h x) alone)
 
 -- ---- two bounds
 

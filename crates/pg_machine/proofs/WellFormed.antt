@@ -224,6 +224,15 @@ moved-well p s t k left low high h is at =
       ];
     }
 
+-- the locations of the act that a step takes are the memory's
+pub act-inside : (p : ProgramTable) (s : State) (e : Event) (next : State) → IsProgram p → IsWellFormed p s → (is : IsStep p s e next) → All (λ x. x < length s.memory.initial) (locations_in (act_of is.stmt))
+act-inside p s e next built h is =
+    let names = p.names in
+    let long = ap length h.memory.initial in
+    let size = length-map names.locations (λ (e : List ℕ × ℕ). e.1) in
+    All-weaker (λ (x : ℕ). x < length names.locations) (λ (x : ℕ). x < length s.memory.initial) (λ x lt. omega (arith, long, size, lt)) (locations_in (act_of is.stmt))
+    (stmt_of p built e.thread (point_of s e.thread) is.stmt is.thread.0 is.thread.1 is.stands).locations
+
 pub step_keeps : (p : ProgramTable) (s : State) (e : Event) (next : State) → IsProgram p → IsWellFormed p s → IsStep p s e next → IsWellFormed p next
 step_keeps p s e next built h is =
     let t = e.thread in
@@ -234,11 +243,7 @@ step_keeps p s e next built h is =
     let some = has_values p built in
     let threads = h.threads in
     let mine : AreViews s.memory (views_of s t) = All-get_or (AreViews s.memory) s.views (t - 1) (record { coh = []; vrn = 0; vpr = 0; vpa = []; vpc = [] }) (omega (arith, threads, low, high)) h.views in
-    let long = ap length h.memory.initial in
-    let size = length-map names.locations (λ (e : List ℕ × ℕ). e.1) in
-    let declared = All-weaker (λ (x : ℕ). x < length names.locations) (λ (x : ℕ). x < length s.memory.initial) (λ x lt. omega (arith, long, size, lt)) (locations_in (act_of is.stmt))
-    (stmt_of p built t (point_of s t) is.stmt low high is.stands).locations in
-    let left = left-is names (seen_by s t) s.scalars (act_of is.stmt) e.choice some h.memory mine (record { size = h.scalars.0; below = h.scalars.1 }) declared is.left is.row in
+    let left = left-is names (seen_by s t) s.scalars (act_of is.stmt) e.choice some h.memory mine (record { size = h.scalars.0; below = h.scalars.1 }) (act-inside p s e next built h is) is.left is.row in
     let done : IsLeft names s.memory (record is.left { scalars = bracket_done d (bracket_of is.stmt) is.left.scalars }) = record {
       memory = left.memory;
       views = left.views;
