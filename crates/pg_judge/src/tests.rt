@@ -60,7 +60,7 @@ fn judged(
     requires pre { All (λ l. (l.x < length names.locations) × (l.v < names.domain)) pre.now }
     requires note { All (λ l. (l.x < length names.locations) × (l.v < names.domain)) note.now }
 {
-    let program = Program::build(names, vec![in alloc; Vec::new(alloc)]?)?;
+    let program = Program::build(alloc, names, vec![in alloc; Vec::new(alloc)]?)?;
     let pre = Vec::from_slice(alloc, pre)?;
     let notes = vec![in alloc; Vec::from_slice(alloc, note)?]?;
     let o = PathOutline {
@@ -135,7 +135,7 @@ fn stored(
     requires first { All (λ l. (l.x < 1) × (l.v < 2)) first.now }
     requires second { All (λ l. (l.x < 1) × (l.v < 2)) second.now }
 {
-    let program = Program::build(one_location(alloc)?, store_one(alloc)?)?;
+    let program = Program::build(alloc, one_location(alloc)?, store_one(alloc)?)?;
     let pre = Vec::from_slice(alloc, pre)?;
     let first = Vec::from_slice(alloc, first)?;
     let second = Vec::from_slice(alloc, second)?;

@@ -45,7 +45,7 @@ is_reached ms x c n p h =
     let b = and_parts (nat_le c p) (is_clear ms x p n) a.1 in
     record { at = a.0; from = leb-true c p b.0; clear = b.1 }
 
-hidden-not_clear : (ms : List (ℕ × ℕ)) (x p n later : ℕ) → hides ms x p n later ≡ true → is_clear ms x p n ≡ true → ⊥
+pub hidden-not_clear : (ms : List (ℕ × ℕ)) (x p n later : ℕ) → hides ms x p n later ≡ true → is_clear ms x p n ≡ true → ⊥
 hidden-not_clear ms x p n later h clear =
     let at = (and_parts (is_at ms x later) _ h).0 in
     let within = is_at-within ms x later at in

@@ -3,6 +3,11 @@ pub mod Made
 pub mod Uses
 pub mod Formed
 pub mod Taken
+pub mod Appended
 pub mod Faults
 pub mod ViewsKept
 pub mod WellFormed
+pub mod ViewLaws
+pub mod StoreSteps
+pub mod Reached
+pub mod Moved
