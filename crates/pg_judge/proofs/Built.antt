@@ -5,7 +5,7 @@ use Rattle.std.proofs.lemmas.List.Elements.{All-nil, All-weaker}
 use Rattle.pg_program.specs.NameTable.{initial}
 use Rattle.pg_program.specs.Program.{IsProgram}
 use Rattle.pg_program.specs.Straight.{straight}
-use Rattle.pg_machine.proofs.InDomain.{stores_within}
+use Rattle.pg_machine.proofs.StoreSteps.{stores_within}
 use Rattle.pg_judge.specs.declared.outline.PathOutline.{PathOutline}
 use Rattle.pg_judge.specs.Path.{path, IsPath, HasStores}
 use Rattle.pg_judge.specs.Judgement.{Judges, IsProvedIfAccepted}

@@ -3,9 +3,8 @@ use Rattle.std.proofs.Common.{◌≡◌, ℕ, zero, suc, ◌<◌, ◌≤◌, ◌
 use Rattle.std.specs.List.{All, list_all}
 use Rattle.std.proofs.lemmas.Bool.{ne_eqb}
 use Rattle.std.proofs.lemmas.List.Elements.{All-head, All-tail, All-get_or, All-from_get_or}
-use Rattle.pg_machine.specs.Memory.{Memory, value_at, last, last_value}
+use Rattle.pg_machine.specs.Memory.{Memory, value_at, last, last_value, message_appended}
 use Rattle.pg_machine.specs.State.{State}
-use Rattle.pg_machine.specs.Step.{message_appended}
 use Rattle.pg_machine.proofs.Appended.{same_number, last_upto-within, last_value-appended}
 use Rattle.pg_judge.specs.declared.outline.PathLit.{PathLit}
 use Rattle.pg_judge.specs.Path.{meets, meets_all}

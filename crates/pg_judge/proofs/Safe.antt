@@ -11,8 +11,8 @@ use Rattle.pg_program.specs.Straight.{straight}
 use Rattle.pg_machine.specs.declared.event.Event.{Event}
 use Rattle.pg_machine.specs.Memory.{Memory, last_value}
 use Rattle.pg_machine.specs.State.{State, point_of, fresh}
-use Rattle.pg_machine.specs.Step.{stored, moved, IsStep}
-use Rattle.pg_machine.proofs.Steps.{one_thread, step_stores}
+use Rattle.pg_machine.specs.Step.{IsStep}
+use Rattle.pg_machine.proofs.StoreSteps.{after_store as stored, one_thread, step_stores}
 use Rattle.pg_machine.proofs.WellFormed.{All-constant, fresh_is_well_formed}
 use Rattle.pg_judge.specs.declared.outline.PathLit.{PathLit}
 use Rattle.pg_judge.specs.declared.obligation.PathKind.{PathKind}
@@ -109,9 +109,9 @@ start o p s of all h =
 
 -- ---- a step
 
-after_step : (o : Outline) (p : Path) (s : State) (k : ℕ) → IsOf o p → AllFollow p → Holds o p s → point_of s 1 ≡ k → k ≤ length p.stores → Holds o p (moved (stored s 1 (store p k)) 1 (k + 1))
+after_step : (o : Outline) (p : Path) (s : State) (k : ℕ) → IsOf o p → AllFollow p → Holds o p s → point_of s 1 ≡ k → k ≤ length p.stores → Holds o p (stored s 1 (store p k) (k + 1))
 after_step o p s k of all h at to =
-    let next = moved (stored s 1 (store p k)) 1 (k + 1) in
+    let next = stored s 1 (store p k) (k + 1) in
     let from : 1 ≤ k = let f = h.from in omega (arith, at, f) in
     let notes = of.path.one_note_a_point in
     let st = All-get_or (λ (t : ℕ × ℕ). (t.0 < length p.initial) × (t.1 < p.domain)) p.stores (k - 1) (0, 0) (omega (arith, from, to)) of.within in
@@ -137,7 +137,8 @@ after_step o p s k of all h at to =
 step : (o : Outline) (p : Path) (s : State) (e : Event) (next : State) → IsOf o p → AllFollow p → Holds o p s → IsStep o.program s e next → Holds o p next
 step o p s e next of all h is =
     let from = h.from in
-    let does = step_stores o.program p.stores s e next of.stores from is in
+    let below = All-weaker (λ (t : ℕ × ℕ). (t.0 < length p.initial) × (t.1 < p.domain)) (λ (t : ℕ × ℕ). t.1 < o.program.names.domain) (λ t h. subst (λ (d : ℕ). t.1 < d) (sym of.domain) h.1) p.stores of.within in
+    let does = step_stores o.program p.stores s e next of.stores below from is in
     let inside = does.inside in
     subst (λ (q : State). Holds o p q) (sym does.becomes) (after_step o p s (point_of s 1) of all h refl (omega (arith, inside, from)))
 

@@ -1,8 +1,7 @@
 -- What an appended message changes of the last values: that of its location alone.
 use Rattle.std.proofs.Common.{◌≡◌, ℕ, zero, suc, ◌<◌, ◌≤◌, Bool, true, false, cond, ◌==◌, List, [], ◌∷◌, ◌++◌, length, slice_index_or, refl, ap, ◌∙◌, arith}
 use Rattle.std.proofs.lemmas.Bool.{eqb-false}
-use Rattle.pg_machine.specs.Memory.{Memory, is_to, value_at, last_upto, last, last_value}
-use Rattle.pg_machine.specs.Step.{message_appended}
+use Rattle.pg_machine.specs.Memory.{Memory, is_to, value_at, last_upto, last, last_value, message_appended}
 
 pub same_number : (x : ℕ) → (x == x) ≡ true
 same_number x = by (x == x) refl
@@ -24,7 +23,7 @@ pub length-appended : (ms : List (ℕ × ℕ)) (m : ℕ × ℕ) → length (ms +
 length-appended [] m = refl
 length-appended (a ∷ ms) m = ap suc (length-appended ms m)
 
-last_upto-front : (ms : List (ℕ × ℕ)) (m : ℕ × ℕ) (y n : ℕ) → n ≤ length ms → last_upto (ms ++ m ∷ []) y n ≡ last_upto ms y n
+pub last_upto-front : (ms : List (ℕ × ℕ)) (m : ℕ × ℕ) (y n : ℕ) → n ≤ length ms → last_upto (ms ++ m ∷ []) y n ≡ last_upto ms y n
 last_upto-front ms m y zero lt = refl
 last_upto-front ms m y (suc n) lt =
     ap (λ (b : Bool). cond b (suc n) (last_upto (ms ++ m ∷ []) y n)) (is_to-front ms m y n (omega arith))

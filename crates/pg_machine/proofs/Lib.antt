@@ -1,5 +1,13 @@
-pub mod OneStep
+pub mod Scan
+pub mod Made
+pub mod Uses
+pub mod Formed
+pub mod Taken
 pub mod Appended
-pub mod InDomain
-pub mod Steps
+pub mod Faults
+pub mod ViewsKept
 pub mod WellFormed
+pub mod ViewLaws
+pub mod StoreSteps
+pub mod Reached
+pub mod Moved

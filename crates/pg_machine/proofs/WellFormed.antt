@@ -1,21 +1,37 @@
 -- The fresh state is well formed, and a step keeps a state so.
-use Rattle.std.proofs.Common.{◌≡◌, ℕ, zero, suc, ◌+◌, ◌-◌, ◌<◌, ◌≤◌, ◌==◌, true, List, [], ◌∷◌, length, map, replicate, get_or, set, inl, inr, refl, sym, ap, subst, ◌∙◌, arith}
+use Rattle.std.proofs.Common.{◌≡◌, ℕ, zero, suc, ◌+◌, ◌-◌, ◌<◌, ◌≤◌, Bool, true, false, cond, List, [], ◌∷◌, length, map, get_or, set, Option, Some, None, Result, Ok, Err, OnOk, OnErr, inl, inr, refl, sym, ap, subst, ◌∙◌, arith}
 use Rattle.std.specs.List.{All}
-use Rattle.std.proofs.Math.Nat.{le-max_left, le-max_right, max-le}
 use Rattle.std.proofs.lemmas.Bool.{cases_eq}
-use Rattle.std.proofs.lemmas.List.{length-map, length-replicate, get_or-replicate, length-set, get_or-set_same, get_or-set_other}
-use Rattle.std.proofs.lemmas.List.Elements.{All-nil, All-cons, All-get_or, All-weaker, All-set, All-push, All-replicate}
+use Rattle.std.proofs.lemmas.List.{length-map, length-set, get_or-set_same, get_or-set_other}
+use Rattle.std.proofs.lemmas.List.Elements.{All-nil, All-cons, All-head, All-tail, All-get_or, All-weaker, All-set, All-push}
+use Rattle.pg_program.specs.declared.syntax.AuxAssign.{AuxAssign}
+use Rattle.pg_program.specs.declared.syntax.Expr.{Expr, out-Expr, fold_out-Expr}
+use Rattle.pg_program.specs.declared.syntax.Expr.TheOpen.{Expr-F, Value, Scalar, Add, Sub, Mul}
+use Rattle.pg_program.specs.declared.syntax.Expr.TheFolds.{map-Expr}
 use Rattle.pg_program.specs.declared.syntax.Stmt.{Stmt}
-use Rattle.pg_program.specs.NameTable.{initial}
-use Rattle.pg_program.specs.Program.{ProgramTable, IsProgram, points}
+use Rattle.pg_program.specs.declared.syntax.Act.{Act}
+use Rattle.pg_program.specs.declared.syntax.Act.TheOpen.{Act-F, Assign, Store, Load, Cas, Mfence, Sfence, Flush, Flushopt, If, While}
+use Rattle.pg_program.specs.declared.point.Branch.{Branch}
+use Rattle.pg_program.specs.declared.point.Step.{Step}
+use Rattle.pg_program.specs.NameTable.{NameTable, initial}
+use Rattle.pg_program.specs.Fault.{locations_in}
+use Rattle.pg_program.specs.Expr.{value, value_step}
+use Rattle.pg_program.specs.Graph.{target_of, is_branch}
+use Rattle.pg_program.specs.Laws.{LeadsWithin}
+use Rattle.pg_program.specs.Program.{ProgramTable, IsProgram, points, steps_at}
 use Rattle.pg_program.proofs.ProgramLemmas.{has_values, initial_inside}
+use Rattle.pg_program.proofs.GraphLaws.{steps_lead_within}
 use Rattle.pg_machine.specs.declared.event.Event.{Event}
-use Rattle.pg_machine.specs.Memory.{Memory, is_at}
-use Rattle.pg_machine.specs.State.{Views, State, greatest, maxcoh, point_of, AreViews, IsWellFormed, fresh, fresh_views}
-use Rattle.pg_machine.specs.Step.{views_of, message_appended, store_seen, stored, moved, IsStep}
-use Rattle.pg_machine.proofs.Appended.{same_number, is_to-front, is_to-new, length-appended}
-use Rattle.pg_machine.proofs.Steps.{takes_row, row_within}
-use Rattle.pg_machine.proofs.InDomain.{store_within}
+use Rattle.pg_machine.specs.declared.fault.StepFault.{StepFault}
+use Rattle.pg_machine.specs.Memory.{Memory, value_at, message_appended}
+use Rattle.pg_machine.specs.State.{Views, State, coh_of, point_of, AreViews, IsMemory, IsWellFormed, fresh, fresh_views}
+use Rattle.pg_machine.specs.Moves.{Seen, can_read, mfence_seen, sfence_seen, flush_seen, flushopt_seen, load_seen, store_seen, swap_seen, fenced, SwapIsStoreThenFence}
+use Rattle.pg_machine.specs.Step.{Left, leaves, Row, act_of, bracket_of, bracket_done, assigned, branch_taken, seen_by, moved, IsStep}
+use Rattle.pg_machine.proofs.Scan.{is_at-within}
+use Rattle.pg_machine.proofs.Uses.{value-below, get-below}
+use Rattle.pg_machine.proofs.Faults.{is_reached}
+use Rattle.pg_machine.proofs.Formed.{stmt_locations}
+use Rattle.pg_machine.proofs.ViewsKept.{fresh_are_views, mfence_views, sfence_views, flush_views, flushopt_views, load_views, views_stay, store_views, swap_is}
 
 -- ---- the fresh state
 
@@ -27,18 +43,6 @@ get-constant : {X : Type 0} (c : ℕ) (xs : List X) (i : ℕ) → i < length xs 
 get-constant c [] i lt = absurd (omega arith)
 get-constant c (x ∷ xs) zero lt = refl
 get-constant c (x ∷ xs) (suc i) lt = get-constant c xs i (omega arith)
-
-fresh_are_views : (m : Memory) (n : ℕ) → length m.initial ≡ n → AreViews m (fresh_views n)
-fresh_are_views m n size = record {
-  size = (length-replicate n 0 ∙ sym size, (length-replicate n 0 ∙ sym size, length-replicate n 0 ∙ sym size));
-  coherent = λ x lt.
-      let at : get_or (replicate n 0) x 0 ≡ 0 = get_or-replicate n x 0 0 (omega (arith, size, lt)) in
-      (omega (arith, at), ap (λ (p : ℕ). is_at m.messages x p) at);
-  read = omega arith;
-  ready = omega arith;
-  asynchronous = All-replicate (λ (p : ℕ). p ≤ maxcoh (fresh_views n)) n 0 (omega arith);
-  committed = All-replicate (λ (p : ℕ). p ≤ maxcoh (fresh_views n)) n 0 (omega arith);
-}
 
 pub fresh_is_well_formed : (p : ProgramTable) → IsProgram p → IsWellFormed p (fresh p)
 fresh_is_well_formed p h =
@@ -61,113 +65,187 @@ fresh_is_well_formed p h =
           (omega (arith, at), omega (arith, at));
     }
 
--- ---- a step
+-- ---- values
 
-greatest-bounds : (ps : List ℕ) (i : ℕ) → i < length ps → get_or ps i 0 ≤ greatest ps
-greatest-bounds [] i lt = absurd (omega arith)
-greatest-bounds (p ∷ ps) zero lt = le-max_left p (greatest ps)
-greatest-bounds (p ∷ ps) (suc i) lt =
-    let rest = greatest-bounds ps i (omega arith) in
-    let more = le-max_right p (greatest ps) in
-    omega (arith, rest, more)
+step-inside : (d : ℕ) (r : List ℕ) → 0 < d → All (λ v. v < d) r → (e : Expr-F ℕ) → value_step r d e < d
+step-inside d r some h (Value v) = omega arith
+step-inside d r some h (Scalar q) = get-below d r q some h
+step-inside d r some h (Add a b) = omega arith
+step-inside d r some h (Sub a b) = omega arith
+step-inside d r some h (Mul a b) = omega arith
 
-greatest-least : (ps : List ℕ) (m : ℕ) → ((i : ℕ) → i < length ps → get_or ps i 0 ≤ m) → greatest ps ≤ m
-greatest-least [] m h = omega arith
-greatest-least (p ∷ ps) m h = max-le (h 0 (omega arith)) (greatest-least ps m (λ i lt. h (suc i) (omega (arith, lt))))
+value-inside : (d : ℕ) (r : List ℕ) (e : Expr) → 0 < d → All (λ v. v < d) r → value r d e < d
+value-inside d r e some h =
+    subst (λ (n : ℕ). n < d) (sym (fold_out-Expr ℕ (value_step r d) e)) (step-inside d r some h (map-Expr Expr ℕ (value r d) (out-Expr e)))
 
--- a position of a memory is one of the memory with a message more
-position-stays : (m : Memory) (st : ℕ × ℕ) (x c : ℕ) → c ≤ length m.messages → is_at m.messages x c ≡ true → is_at (message_appended m st).messages x c ≡ true
-position-stays m st x zero le h = refl
-position-stays m st x (suc i) le h = is_to-front m.messages st x i (omega (arith, le)) ∙ h
+assigned-size : (d : ℕ) (seen : List ℕ) (bracket : List AuxAssign) (r : List ℕ) → length (assigned d seen bracket r) ≡ length r
+assigned-size d seen [] r = refl
+assigned-size d seen (a ∷ rest) r = assigned-size d seen rest (set r a.target (value seen d a.expr)) ∙ length-set r a.target (value seen d a.expr)
 
-views_stay : (m : Memory) (st : ℕ × ℕ) (w : Views) → AreViews m w → AreViews (message_appended m st) w
-views_stay m st w h = record {
-  size = h.size;
-  coherent = λ x lt.
-      let c = h.coherent x lt in
-      let long = length-appended m.messages st in
-      let le = c.0 in
-      (omega (arith, le, long), position-stays m st x (get_or w.coh x 0) le c.1);
-  read = h.read;
-  ready = h.ready;
-  asynchronous = h.asynchronous;
-  committed = h.committed;
+assigned-inside : (d : ℕ) (seen : List ℕ) (bracket : List AuxAssign) (r : List ℕ) → 0 < d → All (λ v. v < d) seen → All (λ v. v < d) r → All (λ v. v < d) (assigned d seen bracket r)
+assigned-inside d seen [] r some h k = k
+assigned-inside d seen (a ∷ rest) r some h k =
+    assigned-inside d seen rest (set r a.target (value seen d a.expr)) some h
+    (All-set (λ (v : ℕ). v < d) r a.target (value seen d a.expr) (value-inside d seen a.expr some h) k)
+
+-- ---- what each row keeps
+
+record Keeps (names : NameTable) (n : Seen) (r : List ℕ) (left : Left) : Type 0 where
+  memory : IsMemory names left.seen.memory
+  own : AreViews left.seen.memory left.seen.views
+  others : (w : Views) → AreViews n.memory w → AreViews left.seen.memory w
+  size : length left.scalars ≡ length r
+  values : All (λ v. v < names.domain) left.scalars
+
+-- what is well formed before the row
+record Before (names : NameTable) (n : Seen) (r : List ℕ) : Type 0 where
+  some : 0 < names.domain
+  memory : IsMemory names n.memory
+  own : AreViews n.memory n.views
+  values : All (λ v. v < names.domain) r
+
+moves : (names : NameTable) (n : Seen) (r : List ℕ) (w : Views) → Before names n r → AreViews n.memory w → Keeps names n r (leaves (record { memory = n.memory; views = w }) r)
+moves names n r w h own = record { memory = h.memory; own = own; others = λ v k. k; size = refl; values = h.values }
+
+moves-set : (names : NameTable) (n : Seen) (r : List ℕ) (w : Views) (q v : ℕ) → Before names n r → AreViews n.memory w → v < names.domain
+    → Keeps names n r (leaves (record { memory = n.memory; views = w }) (set r q v))
+moves-set names n r w q v h own low = record {
+  memory = h.memory;
+  own = own;
+  others = λ u k. k;
+  size = length-set r q v;
+  values = All-set (λ (k : ℕ). k < names.domain) r q v low h.values;
 }
 
-stored_views : (m : Memory) (st : ℕ × ℕ) (w : Views) → st.0 < length m.initial → AreViews m w → AreViews (message_appended m st) (store_seen w st.0 (length m.messages + 1))
-stored_views m st w inside h =
-    let n = length m.messages in
-    let next = message_appended m st in
-    let size = h.size.0 in
-    let long = length-appended m.messages st in
-    let here : get_or (set w.coh st.0 (n + 1)) st.0 0 ≡ n + 1 = get_or-set_same w.coh st.0 (n + 1) 0 (omega (arith, size, inside)) in
-    let resized = length-set w.coh st.0 (n + 1) in
-    let above = greatest-bounds (set w.coh st.0 (n + 1)) st.0 (omega (arith, resized, size, inside)) in
-    let before : maxcoh w ≤ n = greatest-least w.coh n (λ i lt. (h.coherent i (omega (arith, size, lt))).0) in
-    let grows : maxcoh w ≤ maxcoh (store_seen w st.0 (n + 1)) = omega (arith, here, above, before) in
-    let ready = h.ready in
-    record {
-      size = (resized ∙ size, h.size.1);
-      coherent = λ x lt. elim (cases_eq x st.0) [
-        | inl e ↦
-            let at : get_or (set w.coh st.0 (n + 1)) x 0 ≡ suc n = ap (λ (y : ℕ). get_or (set w.coh st.0 (n + 1)) y 0) e ∙ (here ∙ (let q : n + 1 ≡ suc n = omega arith in q)) in (
-              omega (arith, at, long),
-              ap (λ (c : ℕ). is_at next.messages x c) at
-                  ∙ (is_to-new m.messages st x ∙ (ap (λ (y : ℕ). st.0 == y) e ∙ same_number st.0)),
-            )
-        | inr ne ↦
-            let c = h.coherent x lt in
-            let le = c.0 in
-            let at : get_or (set w.coh st.0 (n + 1)) x 0 ≡ get_or w.coh x 0 = get_or-set_other w.coh st.0 x (n + 1) 0 ne in (
-              omega (arith, at, le, long),
-              ap (λ (q : ℕ). is_at next.messages x q) at ∙ position-stays m st x (get_or w.coh x 0) le c.1,
-            )
-      ];
-      read = h.read;
-      ready = omega (arith, ready, grows);
-      asynchronous = All-weaker (λ (p : ℕ). p ≤ maxcoh w) (λ (p : ℕ). p ≤ maxcoh (store_seen w st.0 (n + 1))) (λ p le. omega (arith, le, grows)) w.vpa h.asynchronous;
-      committed = All-weaker (λ (p : ℕ). p ≤ maxcoh w) (λ (p : ℕ). p ≤ maxcoh (store_seen w st.0 (n + 1))) (λ p le. omega (arith, le, grows)) w.vpc h.committed;
-    }
+longer : (names : NameTable) (m : Memory) (x v : ℕ) → IsMemory names m → x < length m.initial → v < names.domain → IsMemory names (message_appended m (x, v))
+longer names m x v h inside low = record {
+  initial = h.initial;
+  values = h.values;
+  messages = All-push (λ (s : ℕ × ℕ). (s.0 < length m.initial) × (s.1 < names.domain)) m.messages (x, v) h.messages (inside, low);
+}
 
-store_keeps : (p : ProgramTable) (s : State) (t n : ℕ) (st : ℕ × ℕ) → 1 ≤ t → t ≤ length p.threads → IsWellFormed p s → st.0 < length (initial p.names) → st.1 < p.names.domain → (1 ≤ n) × (n ≤ points p t)
-    → IsWellFormed p (moved (stored s t st) t n)
-store_keeps p s t n st low high h inside below at =
-    let next = moved (stored s t st) t n in
-    let m = s.memory in
-    let same = ap length h.memory.initial in
-    let within : st.0 < length m.initial = omega (arith, same, inside) in
-    let threads = h.threads in
-    let pointed = h.pointed in
-    let moves : point_of next t ≡ n = get_or-set_same s.points (t - 1) n 0 (omega (arith, pointed, low, high)) in
-    let mine = All-get_or (λ (w : Views). AreViews m w) s.views (t - 1) (record { coh = []; vrn = 0; vpr = 0; vpa = []; vpc = [] }) (omega (arith, threads, low, high)) h.views in
-    record {
-      memory = record {
-        initial = h.memory.initial;
-        values = h.memory.values;
-        messages = All-push (λ (x : ℕ × ℕ). (x.0 < length m.initial) × (x.1 < p.names.domain)) m.messages st h.memory.messages (within, below);
-      };
-      threads = length-set s.views (t - 1) (store_seen (views_of s t) st.0 (length m.messages + 1)) ∙ threads;
-      views = All-set (AreViews (message_appended m st)) s.views (t - 1) (store_seen (views_of s t) st.0 (length m.messages + 1))
-          (stored_views m st (views_of s t) within mine)
-          (All-weaker (AreViews m) (AreViews (message_appended m st)) (views_stay m st) s.views h.views);
-      scalars = h.scalars;
-      pointed = length-set s.points (t - 1) n ∙ pointed;
-      points = λ u from to. elim (cases_eq u t) [
-        | inl e ↦ subst (λ (k : ℕ). (1 ≤ point_of next k) × (point_of next k ≤ points p k)) (sym e)
-            (let low = at.0 in let high = at.1 in (omega (arith, moves, low), omega (arith, moves, high)))
-        | inr ne ↦
-            let apart : (u - 1 ≡ t - 1) → ⊥ = λ q. ne (let k : u ≡ t = omega (arith, from, low, q) in k) in
-            let stays : point_of next u ≡ point_of s u = get_or-set_other s.points (t - 1) (u - 1) n 0 apart in
-            subst (λ (k : ℕ). (1 ≤ k) × (k ≤ points p u)) (sym stays) (h.points u from to)
-      ];
-    }
+appends : (names : NameTable) (n : Seen) (r new : List ℕ) (w : Views) (x v : ℕ) → Before names n r → x < length n.memory.initial → v < names.domain → AreViews (message_appended n.memory (x, v)) w
+    → length new ≡ length r → All (λ k. k < names.domain) new → Keeps names n r (leaves (record { memory = message_appended n.memory (x, v); views = w }) new)
+appends names n r new w x v h inside low own size values = record {
+  memory = longer names n.memory x v h.memory inside low;
+  own = own;
+  others = λ u k. views_stay n.memory (x, v) u k;
+  size = size;
+  values = values;
+}
+
+read-inside : (names : NameTable) (n : Seen) (r : List ℕ) (x p : ℕ) → Before names n r → value_at n.memory x p < names.domain
+read-inside names n r x p h =
+    value-below names.domain n.memory x p h.some h.memory.values
+    (All-weaker (λ (s : ℕ × ℕ). (s.0 < length n.memory.initial) × (s.1 < names.domain)) (λ (s : ℕ × ℕ). s.1 < names.domain) (λ s k. k.1) n.memory.messages h.memory.messages)
+
+reads-views : (n : Seen) (x p : ℕ) → AreViews n.memory n.views → x < length n.memory.initial → can_read n x p ≡ true → AreViews n.memory (load_seen n.views x p)
+reads-views n x p own inside read =
+    let at = is_reached n.memory.messages x (coh_of n.views x) n.views.vrn p read in
+    load_views n.memory n.views x p own inside at.at (is_at-within n.memory.messages x p at.at) at.from
+
+pub swap_is_store_then_fence : SwapIsStoreThenFence
+swap_is_store_then_fence n x v own inside =
+    ap (λ (w : Views). let s : Seen = record { memory = message_appended n.memory (x, v); views = w } in s) (swap_is n.memory x n.views own inside)
+
+swap_views : (n : Seen) (x v : ℕ) → AreViews n.memory n.views → x < length n.memory.initial → AreViews (message_appended n.memory (x, v)) (swap_seen n.views x (length n.memory.messages + 1))
+swap_views n x v own inside =
+    subst (AreViews (message_appended n.memory (x, v))) (sym (swap_is n.memory x n.views own inside))
+    (mfence_views (message_appended n.memory (x, v)) (store_seen n.views x (length n.memory.messages + 1)) (store_views n.memory x v n.views own inside))
+
+miss_views : (n : Seen) (x p : ℕ) → AreViews n.memory n.views → x < length n.memory.initial → can_read (fenced n) x p ≡ true → AreViews n.memory (mfence_seen (load_seen (mfence_seen n.views) x p))
+miss_views n x p own inside read =
+    mfence_views n.memory (load_seen (mfence_seen n.views) x p) (reads-views (fenced n) x p (mfence_views n.memory n.views own) inside read)
+
+row_keeps : (names : NameTable) (n : Seen) (r : List ℕ) (a : Act-F Act Stmt) (c : Option ℕ) (left : Left) → Before names n r → All (λ x. x < length n.memory.initial) (locations_in a)
+    → Row names.domain n r a c left → Keeps names n r left
+row_keeps names n r (Assign q e) None left h locs row = subst (Keeps names n r) (sym row) (moves-set names n r n.views q (value r names.domain e) h h.own (value-inside names.domain r e h.some h.values))
+row_keeps names n r (Store x e) None left h locs row =
+    let inside = All-head (λ (y : ℕ). y < length n.memory.initial) x [] locs in
+    let v = value r names.domain e in
+    subst (Keeps names n r) (sym row) (appends names n r r (store_seen n.views x (length n.memory.messages + 1)) x v h inside (value-inside names.domain r e h.some h.values) (store_views n.memory x v n.views h.own inside) refl h.values)
+row_keeps names n r (Load q x) (Some p) left h locs row =
+    let inside = All-head (λ (y : ℕ). y < length n.memory.initial) x [] locs in
+    subst (Keeps names n r) (sym row.1) (moves-set names n r (load_seen n.views x p) q (value_at n.memory x p) h (reads-views n x p h.own inside row.0) (read-inside names n r x p h))
+row_keeps names n r (Cas q x e f) None left h locs row =
+    let inside = All-head (λ (y : ℕ). y < length n.memory.initial) x [] locs in
+    let v = value r names.domain f in
+    let u = value r names.domain e in
+    subst (Keeps names n r) (sym row.1)
+    (appends names n r (set r q u) (swap_seen n.views x (length n.memory.messages + 1)) x v h inside (value-inside names.domain r f h.some h.values) (swap_views n x v h.own inside)
+    (length-set r q u) (All-set (λ (k : ℕ). k < names.domain) r q u (value-inside names.domain r e h.some h.values) h.values))
+row_keeps names n r (Cas q x e f) (Some p) left h locs row =
+    let inside = All-head (λ (y : ℕ). y < length n.memory.initial) x [] locs in
+    subst (Keeps names n r) (sym row.2) (moves-set names n r (mfence_seen (load_seen (mfence_seen n.views) x p)) q (value_at n.memory x p) h (miss_views n x p h.own inside row.0) (read-inside names n r x p h))
+row_keeps names n r Mfence None left h locs row = subst (Keeps names n r) (sym row) (moves names n r (mfence_seen n.views) h (mfence_views n.memory n.views h.own))
+row_keeps names n r Sfence None left h locs row = subst (Keeps names n r) (sym row) (moves names n r (sfence_seen n.views) h (sfence_views n.memory n.views h.own))
+row_keeps names n r (Flush x) None left h locs row = subst (Keeps names n r) (sym row) (moves names n r (flush_seen n.views x) h (flush_views n.memory n.views x h.own))
+row_keeps names n r (Flushopt x) None left h locs row = subst (Keeps names n r) (sym row) (moves names n r (flushopt_seen n.views x) h (flushopt_views n.memory n.views x h.own))
+row_keeps names n r (If t y z) None left h locs row = subst (Keeps names n r) (sym row) (moves names n r n.views h h.own)
+row_keeps names n r (While t y) None left h locs row = subst (Keeps names n r) (sym row) (moves names n r n.views h h.own)
+row_keeps names n r (Load q x) None left h locs row = absurd row
+row_keeps names n r (Assign q e) (Some p) left h locs row = absurd row
+row_keeps names n r (Store x e) (Some p) left h locs row = absurd row
+row_keeps names n r Mfence (Some p) left h locs row = absurd row
+row_keeps names n r Sfence (Some p) left h locs row = absurd row
+row_keeps names n r (Flush x) (Some p) left h locs row = absurd row
+row_keeps names n r (Flushopt x) (Some p) left h locs row = absurd row
+row_keeps names n r (If t y z) (Some p) left h locs row = absurd row
+row_keeps names n r (While t y) (Some p) left h locs row = absurd row
+
+-- ---- a step
+
+-- where a step leads is one of the thread's points
+target_within : (b : Branch) (t k n : ℕ) (ss : List Step) (m : ℕ) → All (LeadsWithin t k n) ss → target_of b ss ≡ Some m → (1 ≤ m) × (m ≤ n)
+target_within b t k n [] m h e = cc
+target_within b t k n (s ∷ ss) m h e = by (is_branch b s.branch) (target_within b t k n ss m (All-tail (LeadsWithin t k n) s ss h)) e
+  where
+    by : (b' : Bool) → (target_of b ss ≡ Some m → (1 ≤ m) × (m ≤ n)) → cond b' (Some s.target) (target_of b ss) ≡ Some m → (1 ≤ m) × (m ≤ n)
+    by true rest q =
+        let first = All-head (LeadsWithin t k n) s ss h in
+        let same : s.target ≡ m = cc in
+        let low = first.from in
+        let high = first.to in
+        (omega (arith, same, low), omega (arith, same, high))
+    by false rest q = rest q
 
 pub step_keeps : (p : ProgramTable) (s : State) (e : Event) (next : State) → IsProgram p → IsWellFormed p s → IsStep p s e next → IsWellFormed p next
 step_keeps p s e next built h is =
     let t = e.thread in
+    let low = is.thread.0 in
+    let high = is.thread.1 in
     let k = point_of s t in
-    let row = takes_row p s e next is in
-    let within = store_within p built t k row.stmt row.st is.thread.0 is.thread.1 row.stands row.is in
-    let from = (h.points t is.thread.0 is.thread.1).0 in
-    subst (λ (q : State). IsWellFormed p q) (sym row.becomes)
-    (store_keeps p s t row.target row.st is.thread.0 is.thread.1 h within.0 within.1 (row_within p t k row.target from row.leads))
+    let threads = h.threads in
+    let pointed = h.pointed in
+    let d = p.names.domain in
+    let mine = All-get_or (λ (w : Views). AreViews s.memory w) s.views (t - 1) (record { coh = []; vrn = 0; vpr = 0; vpa = []; vpc = [] }) (omega (arith, threads, low, high)) h.views in
+    let before : Before p.names (seen_by s t) s.scalars = record { some = has_values p built; memory = h.memory; own = mine; values = h.scalars.1 } in
+    let keeps = row_keeps p.names (seen_by s t) s.scalars (act_of is.stmt) e.choice is.left before (stmt_locations p s built h t k is.stmt low high is.stands) is.row in
+    let left = is.left in
+    let at = target_within (branch_taken d s.scalars (act_of is.stmt)) t k (points p t) (steps_at p t k) is.target (steps_lead_within p t k (h.points t low high).0) is.leads in
+    let after : Left = record left { scalars = bracket_done d (bracket_of is.stmt) left.scalars } in
+    let new = moved s t after is.target in
+    let moves_to : point_of new t ≡ is.target = get_or-set_same s.points (t - 1) is.target 0 (omega (arith, pointed, low, high)) in
+    subst (IsWellFormed p) (sym is.becomes)
+    (record {
+      memory = keeps.memory;
+      threads = length-set s.views (t - 1) left.seen.views ∙ threads;
+      views = All-set (AreViews left.seen.memory) s.views (t - 1) left.seen.views keeps.own (All-weaker (AreViews s.memory) (AreViews left.seen.memory) keeps.others s.views h.views);
+      scalars = (
+        assigned-size d left.scalars (bracket_of is.stmt) left.scalars ∙ (keeps.size ∙ h.scalars.0),
+        assigned-inside d left.scalars (bracket_of is.stmt) left.scalars (has_values p built) keeps.values keeps.values,
+      );
+      pointed = length-set s.points (t - 1) is.target ∙ pointed;
+      points = λ u from to. elim (cases_eq u t) [
+        | inl e ↦ subst (λ (k : ℕ). (1 ≤ point_of new k) × (point_of new k ≤ points p k)) (sym e)
+            (let a = at.0 in let b = at.1 in (omega (arith, moves_to, a), omega (arith, moves_to, b)))
+        | inr ne ↦
+            let apart : (u - 1 ≡ t - 1) → ⊥ = λ q. ne (let k : u ≡ t = omega (arith, from, low, q) in k) in
+            let stays : point_of new u ≡ point_of s u = get_or-set_other s.points (t - 1) (u - 1) is.target 0 apart in
+            subst (λ (k : ℕ). (1 ≤ k) × (k ≤ points p u)) (sym stays) (h.points u from to)
+      ];
+    })
+
+pub answered_kept : (p : ProgramTable) (s : State) (e : Event) (new : State) (r : Result (Unit {0}) StepFault) → IsProgram p → IsWellFormed p s → OnOk r (IsStep p s e new) → OnErr r (new ≡ s) → IsWellFormed p new
+answered_kept p s e new (Ok u) built h is same = step_keeps p s e new built h is
+answered_kept p s e new (Err f) built h is same = subst (IsWellFormed p) (sym same) h

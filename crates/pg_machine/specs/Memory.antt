@@ -1,5 +1,5 @@
 -- Memory: the initial values and the messages that the stores appended, in coherence order.
-use Rattle.std.specs.Prelude.{ℕ, zero, suc, Bool, true, false, not, ◌&&◌, ◌==◌, nat_le, nat_lt, if◌then◌else◌, List, [], ◌∷◌, length, slice_index, slice_index_or}
+use Rattle.std.specs.Prelude.{ℕ, zero, suc, Bool, true, false, not, ◌&&◌, ◌==◌, nat_le, nat_lt, if◌then◌else◌, List, [], ◌∷◌, ◌++◌, length, slice_index, slice_index_or}
 
 -- the value of each location at first, and the messages, each with its location and value
 pub record Memory : Type 0 where
@@ -28,9 +28,13 @@ abbrev pub every_below : (ℕ → Bool) → ℕ → Bool
 every_below f zero = true
 every_below f (suc n) = f n && every_below f n
 
+-- at q, in (p, n], stands a message to x: it hides p, up to n
+abbrev pub hides : List (ℕ × ℕ) → ℕ → ℕ → ℕ → ℕ → Bool
+hides ms x p n q = is_at ms x q && (nat_lt p q && nat_le q n)
+
 -- no message to x stands in (p, n]
 abbrev pub is_clear : List (ℕ × ℕ) → ℕ → ℕ → ℕ → Bool
-is_clear ms x p n = every_below (λ q. not (is_at ms x q && (nat_lt p q && nat_le q n))) (suc (length ms))
+is_clear ms x p n = every_below (λ q. not (hides ms x p n q)) (suc (length ms))
 
 -- p is a position of x, from c on, without a message to x in (p, n]
 abbrev pub reaches : List (ℕ × ℕ) → ℕ → ℕ → ℕ → ℕ → Bool
@@ -47,3 +51,7 @@ last ms x = last_upto ms x (length ms)
 
 abbrev pub last_value : Memory → ℕ → ℕ
 last_value m x = value_at m x (last m.messages x)
+
+-- a message behind all others: its location, and its value
+abbrev pub message_appended : Memory → ℕ × ℕ → Memory
+message_appended m st = record m { messages = m.messages ++ st ∷ [] }

@@ -1,5 +1,5 @@
 -- States of the machine, and the well-formed ones.
-use Rattle.std.specs.Prelude.{◌≡◌, ℕ, ◌-◌, ◌+◌, ◌<◌, ◌≤◌, max, true, List, [], ◌∷◌, length, map, All, replicate, slice_index}
+use Rattle.std.specs.Prelude.{◌≡◌, ℕ, ◌-◌, ◌<◌, ◌≤◌, max, true, List, [], ◌∷◌, length, map, All, replicate, slice_index}
 use Rattle.pg_program.specs.NameTable.{NameTable, initial}
 use Rattle.pg_program.specs.Program.{ProgramTable, IsProgram, points as last_point}
 use Rattle.pg_machine.specs.Memory.{Memory, is_at}
@@ -25,13 +25,27 @@ abbrev pub greatest : List ℕ → ℕ
 greatest [] = 0
 greatest (p ∷ ps) = max p (greatest ps)
 
--- a thread's greatest coherence view
+-- a thread's coherence view of x, and its greatest one
+abbrev pub coh_of : Views → ℕ → ℕ
+coh_of w x = slice_index w.coh x
+
 abbrev pub maxcoh : Views → ℕ
 maxcoh w = greatest w.coh
 
+-- a thread's asynchronous view and its committed view of the location x
+abbrev pub vpa_of : Views → ℕ → ℕ
+vpa_of w x = slice_index w.vpa x
+
+abbrev pub vpc_of : Views → ℕ → ℕ
+vpc_of w x = slice_index w.vpc x
+
+-- what a `flushopt` of x is ordered behind: the thread's coherence view of x, and its ready view
+abbrev pub ordered : Views → ℕ → ℕ
+ordered w x = max (coh_of w x) w.vpr
+
 -- what was committed to x: the greatest committed view of x of all threads
 abbrev pub committed : State → ℕ → ℕ
-committed s x = greatest (map (λ w. slice_index w.vpc x) s.views)
+committed s x = greatest (map (λ w. vpc_of w x) s.views)
 
 -- the point of thread t, both numbered from 1
 abbrev pub point_of : State → ℕ → ℕ

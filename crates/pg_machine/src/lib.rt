@@ -1,11 +1,21 @@
 //! The machine: states of threads that share persistent memory, and the steps between them.
 //!
 //! What this crate promises the layers above: the definitions of a state, of a well-formed one and of a step,
-//! in `specs/`, after Px86view, and the law that an event leads a state to one next state at most. So far a
-//! step is the store of a number; the rows of the other statements come beside it.
+//! in `specs/`, after Px86view, and the law that an event leads a state to one next state at most. `State` is such a
+//! state, and its `step` takes the step that an event leads to, or tells the fault that it has.
 #![tactic(auto)]
 
+mod access;
 mod event;
+mod fault;
 pub mod laws;
+mod memory;
+mod messages;
+mod positions;
+mod row;
+mod state;
+mod views;
 
 pub use event::Event;
+pub use fault::{MAX_MESSAGES, StepFault};
+pub use state::State;

@@ -1,0 +1,229 @@
+-- What each move keeps of a thread's views, and of those of the others.
+use Rattle.std.proofs.Common.{◌≡◌, ℕ, zero, suc, ◌+◌, ◌<◌, ◌≤◌, ◌==◌, max, Bool, true, false, cond, List, [], ◌∷◌, ◌++◌, length, replicate, get_or, set, inl, inr, refl, sym, ap, ◌∙◌, arith}
+use Rattle.std.specs.List.{All}
+use Rattle.std.proofs.Math.Nat.{le-max_left, le-max_right, max-le}
+use Rattle.std.proofs.lemmas.Bool.{cases_eq, eqb-false}
+use Rattle.std.proofs.lemmas.List.{length-set, length-replicate, get_or-replicate, get_or-set_same, get_or-set_other}
+use Rattle.std.proofs.lemmas.List.Elements.{All-nil, All-cons, All-head, All-tail, All-weaker, All-set, All-replicate}
+use Rattle.pg_machine.specs.Memory.{Memory, is_to, is_at, message_appended}
+use Rattle.pg_machine.specs.State.{Views, greatest, coh_of, vpa_of, vpc_of, maxcoh, ordered, AreViews, fresh_views}
+use Rattle.pg_machine.specs.Moves.{greater, store_seen, load_seen, mfence_seen, sfence_seen, flush_seen, flushopt_seen, swap_seen}
+use Rattle.pg_machine.proofs.Scan.{greater-length}
+
+-- ---- messages
+
+same_number : (x : ℕ) → (x == x) ≡ true
+same_number x = by (x == x) refl
+  where
+    by : (b : Bool) → (x == x) ≡ b → (x == x) ≡ true
+    by true e = e
+    by false e = absurd (eqb-false x x e refl)
+
+is_to-front : (ms : List (ℕ × ℕ)) (m : ℕ × ℕ) (y i : ℕ) → i < length ms → is_to (ms ++ m ∷ []) y i ≡ is_to ms y i
+is_to-front [] m y i lt = absurd (omega arith)
+is_to-front (a ∷ ms) m y zero lt = refl
+is_to-front (a ∷ ms) m y (suc i) lt = is_to-front ms m y i (omega arith)
+
+is_to-new : (ms : List (ℕ × ℕ)) (m : ℕ × ℕ) (y : ℕ) → is_to (ms ++ m ∷ []) y (length ms) ≡ (m.0 == y)
+is_to-new [] m y = refl
+is_to-new (a ∷ ms) m y = is_to-new ms m y
+
+pub length-appended : (ms : List (ℕ × ℕ)) (m : ℕ × ℕ) → length (ms ++ m ∷ []) ≡ suc (length ms)
+length-appended [] m = refl
+length-appended (a ∷ ms) m = ap suc (length-appended ms m)
+
+-- a position of a memory is one of the memory with a message more
+position-stays : (m : Memory) (st : ℕ × ℕ) (x c : ℕ) → c ≤ length m.messages → is_at m.messages x c ≡ true → is_at (message_appended m st).messages x c ≡ true
+position-stays m st x zero le h = refl
+position-stays m st x (suc i) le h = is_to-front m.messages st x i (omega (arith, le)) ∙ h
+
+-- ---- lists of positions
+
+greatest-bounds : (ps : List ℕ) (i : ℕ) → get_or ps i 0 ≤ greatest ps
+greatest-bounds [] i = omega arith
+greatest-bounds (p ∷ ps) zero = le-max_left p (greatest ps)
+greatest-bounds (p ∷ ps) (suc i) =
+    let rest = greatest-bounds ps i in
+    let more = le-max_right p (greatest ps) in
+    omega (arith, rest, more)
+
+greatest-least : (ps : List ℕ) (m : ℕ) → ((i : ℕ) → i < length ps → get_or ps i 0 ≤ m) → greatest ps ≤ m
+greatest-least [] m h = omega arith
+greatest-least (p ∷ ps) m h = max-le (h 0 (omega arith)) (greatest-least ps m (λ i lt. h (suc i) (omega (arith, lt))))
+
+greatest-grows : (ps : List ℕ) (i v : ℕ) → get_or ps i 0 ≤ v → greatest ps ≤ greatest (set ps i v)
+greatest-grows [] i v le = omega arith
+greatest-grows (p ∷ ps) zero v le = omega arith
+greatest-grows (p ∷ ps) (suc i) v le = let rest = greatest-grows ps i v le in omega (arith, rest)
+
+greatest-has : (ps : List ℕ) (i v : ℕ) → i < length ps → v ≤ greatest (set ps i v)
+greatest-has ps i v lt =
+    let same = get_or-set_same ps i v 0 lt in
+    let top = greatest-bounds (set ps i v) i in
+    omega (arith, same, top)
+
+get-within : (m : ℕ) (ps : List ℕ) (i : ℕ) → All (λ p. p ≤ m) ps → get_or ps i 0 ≤ m
+get-within m [] i h = omega arith
+get-within m (p ∷ ps) zero h = All-head (λ (q : ℕ). q ≤ m) p ps h
+get-within m (p ∷ ps) (suc i) h = get-within m ps i (All-tail (λ (q : ℕ). q ≤ m) p ps h)
+
+greater-within : (m : ℕ) (ps qs : List ℕ) → All (λ p. p ≤ m) ps → All (λ p. p ≤ m) qs → All (λ p. p ≤ m) (greater ps qs)
+greater-within m [] qs h k = All-nil (λ (p : ℕ). p ≤ m)
+greater-within m (p ∷ ps) [] h k = h
+greater-within m (p ∷ ps) (q ∷ qs) h k =
+    All-cons (λ (r : ℕ). r ≤ m) (max p q) (greater ps qs) (max-le (All-head (λ (r : ℕ). r ≤ m) p ps h) (All-head (λ (r : ℕ). r ≤ m) q qs k))
+    (greater-within m ps qs (All-tail (λ (r : ℕ). r ≤ m) p ps h) (All-tail (λ (r : ℕ). r ≤ m) q qs k))
+
+raised-within : (m : ℕ) (ps : List ℕ) (i n : ℕ) → All (λ p. p ≤ m) ps → n ≤ m → All (λ p. p ≤ m) (set ps i (max (get_or ps i 0) n))
+raised-within m ps i n h le = All-set (λ (p : ℕ). p ≤ m) ps i (max (get_or ps i 0) n) (max-le (get-within m ps i h) le) h
+
+-- ---- views
+
+pub fresh_are_views : (m : Memory) (n : ℕ) → length m.initial ≡ n → AreViews m (fresh_views n)
+fresh_are_views m n size = record {
+  size = (length-replicate n 0 ∙ sym size, (length-replicate n 0 ∙ sym size, length-replicate n 0 ∙ sym size));
+  coherent = λ x lt.
+      let at : get_or (replicate n 0) x 0 ≡ 0 = get_or-replicate n x 0 0 (omega (arith, size, lt)) in
+      (omega (arith, at), ap (λ (p : ℕ). is_at m.messages x p) at);
+  read = omega arith;
+  ready = omega arith;
+  asynchronous = All-replicate (λ (p : ℕ). p ≤ maxcoh (fresh_views n)) n 0 (omega arith);
+  committed = All-replicate (λ (p : ℕ). p ≤ maxcoh (fresh_views n)) n 0 (omega arith);
+}
+
+pub mfence_views : (m : Memory) (w : Views) → AreViews m w → AreViews m (mfence_seen w)
+mfence_views m w h = record {
+  size = (h.size.0, (h.size.1.0, greater-length w.vpc w.vpa ∙ h.size.1.1));
+  coherent = h.coherent;
+  read = omega arith;
+  ready = omega arith;
+  asynchronous = h.asynchronous;
+  committed = greater-within (maxcoh w) w.vpc w.vpa h.committed h.asynchronous;
+}
+
+pub sfence_views : (m : Memory) (w : Views) → AreViews m w → AreViews m (sfence_seen w)
+sfence_views m w h = record {
+  size = (h.size.0, (h.size.1.0, greater-length w.vpc w.vpa ∙ h.size.1.1));
+  coherent = h.coherent;
+  read = let a = h.read in let b = h.ready in omega (arith, a, b);
+  ready = omega arith;
+  asynchronous = h.asynchronous;
+  committed = greater-within (maxcoh w) w.vpc w.vpa h.committed h.asynchronous;
+}
+
+pub flush_views : (m : Memory) (w : Views) (x : ℕ) → AreViews m w → AreViews m (flush_seen w x)
+flush_views m w x h = record {
+  size = (h.size.0, (length-set w.vpa x (max (vpa_of w x) (maxcoh w)) ∙ h.size.1.0, length-set w.vpc x (max (vpc_of w x) (maxcoh w)) ∙ h.size.1.1));
+  coherent = h.coherent;
+  read = h.read;
+  ready = h.ready;
+  asynchronous = raised-within (maxcoh w) w.vpa x (maxcoh w) h.asynchronous (omega arith);
+  committed = raised-within (maxcoh w) w.vpc x (maxcoh w) h.committed (omega arith);
+}
+
+pub flushopt_views : (m : Memory) (w : Views) (x : ℕ) → AreViews m w → AreViews m (flushopt_seen w x)
+flushopt_views m w x h = record {
+  size = (h.size.0, (length-set w.vpa x (max (vpa_of w x) (ordered w x)) ∙ h.size.1.0, h.size.1.1));
+  coherent = h.coherent;
+  read = h.read;
+  ready = h.ready;
+  asynchronous = raised-within (maxcoh w) w.vpa x (ordered w x) h.asynchronous (max-le (greatest-bounds w.coh x) h.ready);
+  committed = h.committed;
+}
+
+within-more : (a b : ℕ) (ps : List ℕ) → a ≤ b → All (λ p. p ≤ a) ps → All (λ p. p ≤ b) ps
+within-more a b ps le h = All-weaker (λ (p : ℕ). p ≤ a) (λ (p : ℕ). p ≤ b) (λ p low. omega (arith, low, le)) ps h
+
+-- a coherence view becomes a position of its location, above the one before
+coherent-moved : (m : Memory) (coh : List ℕ) (x p : ℕ) → ((y : ℕ) → y < length m.initial → (get_or coh y 0 ≤ length m.messages) × (is_at m.messages y (get_or coh y 0) ≡ true))
+    → length coh ≡ length m.initial → x < length m.initial → p ≤ length m.messages → is_at m.messages x p ≡ true
+    → (y : ℕ) → y < length m.initial → (get_or (set coh x p) y 0 ≤ length m.messages) × (is_at m.messages y (get_or (set coh x p) y 0) ≡ true)
+coherent-moved m coh x p h size inside le at y lt = elim (cases_eq y x) [
+  | inl e ↦
+      let here : get_or (set coh x p) y 0 ≡ p = ap (λ (z : ℕ). get_or (set coh x p) z 0) e ∙ get_or-set_same coh x p 0 (omega (arith, size, inside)) in
+      (omega (arith, here, le), ap (λ (z : ℕ). is_at m.messages y z) here ∙ (ap (λ (z : ℕ). is_at m.messages z p) e ∙ at))
+  | inr ne ↦
+      let there : get_or (set coh x p) y 0 ≡ get_or coh y 0 = get_or-set_other coh x y p 0 ne in
+      let before = h y lt in
+      let low = before.0 in
+      (omega (arith, there, low), ap (λ (z : ℕ). is_at m.messages y z) there ∙ before.1)
+]
+
+cond-within : (b : Bool) (a p m : ℕ) → a ≤ m → p ≤ m → cond b a (max a p) ≤ m
+cond-within true a p m h k = h
+cond-within false a p m h k = max-le h k
+
+cond-both : (b : Bool) (a c p : ℕ) → a ≤ c → cond b a (max a p) ≤ cond b c (max c p)
+cond-both true a c p h = h
+cond-both false a c p h = omega arith
+
+pub load_views : (m : Memory) (w : Views) (x p : ℕ) → AreViews m w → x < length m.initial → is_at m.messages x p ≡ true → p ≤ length m.messages → coh_of w x ≤ p → AreViews m (load_seen w x p)
+load_views m w x p h inside at le from =
+    let size = h.size.0 in
+    let grows = greatest-grows w.coh x p from in
+    let has = greatest-has w.coh x p (omega (arith, size, inside)) in
+    let ready = h.ready in
+    record {
+      size = (length-set w.coh x p ∙ size, h.size.1);
+      coherent = coherent-moved m w.coh x p h.coherent size inside le at;
+      read = cond-both (p == coh_of w x) w.vrn w.vpr p h.read;
+      ready = cond-within (p == coh_of w x) w.vpr p (greatest (set w.coh x p)) (omega (arith, ready, grows)) has;
+      asynchronous = within-more (maxcoh w) (greatest (set w.coh x p)) w.vpa grows h.asynchronous;
+      committed = within-more (maxcoh w) (greatest (set w.coh x p)) w.vpc grows h.committed;
+    }
+
+-- in a memory with a message more each thread's views stay views
+pub views_stay : (m : Memory) (st : ℕ × ℕ) (w : Views) → AreViews m w → AreViews (message_appended m st) w
+views_stay m st w h = record {
+  size = h.size;
+  coherent = λ x lt.
+      let c = h.coherent x lt in
+      let long = length-appended m.messages st in
+      let le = c.0 in
+      (omega (arith, le, long), position-stays m st x (get_or w.coh x 0) le c.1);
+  read = h.read;
+  ready = h.ready;
+  asynchronous = h.asynchronous;
+  committed = h.committed;
+}
+
+pub store_views : (m : Memory) (x v : ℕ) (w : Views) → AreViews m w → x < length m.initial → AreViews (message_appended m (x, v)) (store_seen w x (length m.messages + 1))
+store_views m x v w h inside =
+    let n = length m.messages in
+    let next = message_appended m (x, v) in
+    let before = views_stay m (x, v) w h in
+    let size = h.size.0 in
+    let long = length-appended m.messages (x, v) in
+    let new : suc n ≡ n + 1 = omega arith in
+    let at : is_at next.messages x (n + 1) ≡ true = ap (is_at next.messages x) (sym new) ∙ (is_to-new m.messages (x, v) x ∙ same_number x) in
+    let low = (h.coherent x inside).0 in
+    let grows = greatest-grows w.coh x (n + 1) (omega (arith, low)) in
+    let ready = h.ready in
+    record {
+      size = (length-set w.coh x (n + 1) ∙ size, h.size.1);
+      coherent = coherent-moved next w.coh x (n + 1) before.coherent size inside (omega (arith, long)) at;
+      read = h.read;
+      ready = omega (arith, ready, grows);
+      asynchronous = within-more (maxcoh w) (greatest (set w.coh x (n + 1))) w.vpa grows h.asynchronous;
+      committed = within-more (maxcoh w) (greatest (set w.coh x (n + 1))) w.vpc grows h.committed;
+    }
+
+-- after a store the greatest coherence view is the position of its message
+set-within : (ps : List ℕ) (i v : ℕ) → greatest ps ≤ v → greatest (set ps i v) ≤ v
+set-within [] i v le = le
+set-within (p ∷ ps) zero v le = omega arith
+set-within (p ∷ ps) (suc i) v le = let rest = set-within ps i v (omega arith) in omega (arith, rest)
+
+pub top_stored : (m : Memory) (x : ℕ) (w : Views) → AreViews m w → x < length m.initial → maxcoh (store_seen w x (length m.messages + 1)) ≡ length m.messages + 1
+top_stored m x w h inside =
+    let n = length m.messages in
+    let size = h.size.0 in
+    let low : maxcoh w ≤ n = greatest-least w.coh n (λ i lt. (h.coherent i (omega (arith, size, lt))).0) in
+    let has = greatest-has w.coh x (n + 1) (omega (arith, size, inside)) in
+    let top = set-within w.coh x (n + 1) (omega (arith, low)) in
+    omega (arith, has, top)
+
+pub swap_is : (m : Memory) (x : ℕ) (w : Views) → AreViews m w → x < length m.initial → swap_seen w x (length m.messages + 1) ≡ mfence_seen (store_seen w x (length m.messages + 1))
+swap_is m x w h inside =
+    let coh = set w.coh x (length m.messages + 1) in
+    ap (λ (p : ℕ). let v : Views = record { coh = coh; vrn = p; vpr = p; vpa = w.vpa; vpc = greater w.vpc w.vpa } in v) (sym (top_stored m x w h inside))

@@ -1,5 +1,0 @@
-use Rattle.pg_machine.proofs.OneStep.{one_step}
-use Rattle.pg_machine.proofs.laws.an_event_has_one_next_state.Goals as goal
-
-pub returns : goal.returns
-returns c = one_step

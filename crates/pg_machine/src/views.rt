@@ -1,0 +1,173 @@
+//! The views of one thread.
+
+ghost use Rattle.std.specs.Prelude.{◌≡◌, ◌<◌, length, IfOk};
+ghost use Rattle.pg_machine.specs.State.{coh_of, vpa_of, vpc_of, maxcoh, ordered, fresh_views};
+ghost use Rattle.pg_machine.specs.Moves.{store_seen, load_seen, mfence_seen, sfence_seen, flush_seen, flushopt_seen, swap_seen};
+
+use crate::positions::{greatest, raise};
+use std::alloc::{AllocError, Global};
+use std::marker::Model;
+
+/// The positions that a thread has seen, and those that it has made persistent.
+#[derive(Debug, Drop)]
+pub struct Views {
+    coh: Vec<u32>,
+    vrn: u32,
+    vpr: u32,
+    vpa: Vec<u32>,
+    vpc: Vec<u32>,
+}
+
+impl Model for Views {
+    ghost use Rattle.pg_machine.specs.State.{Views};
+
+    ghost Value = { Views };
+
+    ghost view = { λ w. record { coh = w.coh.items; vrn = w.vrn; vpr = w.vpr; vpa = w.vpa.items; vpc = w.vpc.items } };
+}
+
+impl Views {
+    /// The views of a thread that has done nothing, over this number of locations.
+    pub fn fresh(alloc: Global, locations: usize) -> Result<Views, AllocError>
+        ensures { IfOk result (λ w. w ≡ fresh_views locations) }
+    {
+        Ok(Views {
+            coh: vec![in alloc; 0; locations]?,
+            vrn: 0,
+            vpr: 0,
+            vpa: vec![in alloc; 0; locations]?,
+            vpc: vec![in alloc; 0; locations]?,
+        })
+    }
+
+    /// The coherence view of a location.
+    pub fn coh(&self, location: u8) -> u32
+        requires { location < length self.now.coh }
+        ensures { result ≡ coh_of self.now location }
+    {
+        self.coh[usize::from(location)]
+    }
+
+    /// The read view.
+    pub fn vrn(&self) -> u32
+        ensures { result ≡ self.now.vrn }
+    {
+        self.vrn
+    }
+
+    /// The ready view.
+    pub fn vpr(&self) -> u32
+        ensures { result ≡ self.now.vpr }
+    {
+        self.vpr
+    }
+
+    /// The asynchronous view of a location.
+    pub fn vpa(&self, location: u8) -> u32
+        requires { location < length self.now.vpa }
+        ensures { result ≡ vpa_of self.now location }
+    {
+        self.vpa[usize::from(location)]
+    }
+
+    /// The committed view of a location.
+    pub fn vpc(&self, location: u8) -> u32
+        requires { location < length self.now.vpc }
+        ensures { result ≡ vpc_of self.now location }
+    {
+        self.vpc[usize::from(location)]
+    }
+
+    /// The greatest coherence view.
+    pub fn maxcoh(&self) -> u32
+        ensures { result ≡ maxcoh self.now }
+    {
+        greatest(&self.coh)
+    }
+
+    /// A store to a location, whose message is at this position.
+    pub fn store(&mut self, location: u8, position: u32)
+        requires { location < length self.old.coh }
+        ensures { self.new ≡ store_seen self.old location position }
+    {
+        self.coh[usize::from(location)] = position;
+    }
+
+    /// A load of a location at this position.
+    pub fn load(&mut self, location: u8, position: u32)
+        requires { location < length self.old.coh }
+        ensures { self.new ≡ load_seen self.old location position }
+    {
+        let coh = self.coh[usize::from(location)];
+        self.coh[usize::from(location)] = position;
+        if position != coh {
+            self.vrn = self.vrn.max(position);
+            self.vpr = self.vpr.max(position);
+        }
+    }
+
+    /// A full fence.
+    pub fn mfence(&mut self)
+        requires { length self.old.vpc ≡ length self.old.vpa }
+        ensures { self.new ≡ mfence_seen self.old }
+    {
+        self.vrn = greatest(&self.coh);
+        self.vpr = self.vrn;
+        raise(&mut self.vpc, &self.vpa);
+    }
+
+    /// A store fence.
+    pub fn sfence(&mut self)
+        requires { length self.old.vpc ≡ length self.old.vpa }
+        ensures { self.new ≡ sfence_seen self.old }
+    {
+        self.vpr = greatest(&self.coh);
+        raise(&mut self.vpc, &self.vpa);
+    }
+
+    /// A flush of a location.
+    pub fn flush(&mut self, location: u8)
+        requires vpa { location < length self.old.vpa }
+        requires vpc { location < length self.old.vpc }
+        ensures { self.new ≡ flush_seen self.old location }
+    {
+        let x = usize::from(location);
+        let most = greatest(&self.coh);
+        self.vpa[x] = self.vpa[x].max(most);
+        self.vpc[x] = self.vpc[x].max(most);
+    }
+
+    /// An optimised flush of a location.
+    pub fn flushopt(&mut self, location: u8)
+        requires coh { location < length self.old.coh }
+        requires vpa { location < length self.old.vpa }
+        ensures { self.new ≡ flushopt_seen self.old location }
+    {
+        let x = usize::from(location);
+        let bound = self.coh[x].max(self.vpr);
+        self.vpa[x] = self.vpa[x].max(bound);
+    }
+
+    /// A successful cas of a location, whose message is at this position.
+    pub fn swap(&mut self, location: u8, position: u32)
+        requires location { location < length self.old.coh }
+        requires sizes { length self.old.vpc ≡ length self.old.vpa }
+        ensures { self.new ≡ swap_seen self.old location position }
+    {
+        self.coh[usize::from(location)] = position;
+        self.vrn = position;
+        self.vpr = position;
+        raise(&mut self.vpc, &self.vpa);
+    }
+
+    /// A failing cas of a location, which reads at this position.
+    pub fn miss(&mut self, location: u8, position: u32)
+        requires location { location < length self.old.coh }
+        requires sizes { length self.old.vpc ≡ length self.old.vpa }
+        ensures { self.new ≡ mfence_seen (load_seen (mfence_seen self.old) location position) }
+    {
+        self.mfence();
+        self.load(location, position);
+        self.mfence();
+    }
+}
