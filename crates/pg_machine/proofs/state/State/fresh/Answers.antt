@@ -18,7 +18,7 @@ returns-clause-formed c =
     c.names-3.ensures.names c.in_ok-fresh.ensures
     (c.from-locations.ensures ∙ (c.locations.ensures.count ∙ ap (λ (n : NameTable). length n.locations) c.names.ensures.names))
     (c.from-scalars.ensures ∙ (c.scalars.ensures.count ∙ ap (λ (n : NameTable). length n.scalars) c.names-2.ensures.names))
-    (c.from-threads.ensures ∙ c.threads.ensures)
+    (c.from-threads.ensures ∙ c.threads.ensures.count)
     c.in_ok-fresh_views.ensures (c.in_ok-vec.ensures.items_if_clones_equal (λ y e. e)) (c.in_ok-vec-2.ensures.items_if_clones_equal (λ y e. e))))
     (fresh_is_well_formed c.args.p.now c.names-3.ensures.built)
 
@@ -29,5 +29,5 @@ returns-clause-state c =
     c.names-3.ensures.names c.in_ok-fresh.ensures
     (c.from-locations.ensures ∙ (c.locations.ensures.count ∙ ap (λ (n : NameTable). length n.locations) c.names.ensures.names))
     (c.from-scalars.ensures ∙ (c.scalars.ensures.count ∙ ap (λ (n : NameTable). length n.scalars) c.names-2.ensures.names))
-    (c.from-threads.ensures ∙ c.threads.ensures)
+    (c.from-threads.ensures ∙ c.threads.ensures.count)
     c.in_ok-fresh_views.ensures (c.in_ok-vec.ensures.items_if_clones_equal (λ y e. e)) (c.in_ok-vec-2.ensures.items_if_clones_equal (λ y e. e))
