@@ -3,3 +3,4 @@ mod Levels
 mod Names
 mod Assigned
 mod Lined
+mod Spelling

@@ -4,3 +4,4 @@ pub mod Stmt
 pub mod Thread
 pub mod Text
 pub mod Grammar
+pub mod Spelling

@@ -3,5 +3,6 @@
 
 mod expr;
 mod keyword;
+mod print;
 mod stmt;
 mod thread;
