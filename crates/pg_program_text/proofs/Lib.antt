@@ -4,3 +4,5 @@ mod Names
 mod Assigned
 mod Lined
 mod Spelling
+mod SpellingTrees
+mod SpellingDeclared
