@@ -6,7 +6,7 @@ mod Sound
 mod Stopped
 mod Complete
 mod Whole
-mod SpellingTokens
-mod SpellingAtoms
-mod Spelling
+pub mod SpellingTokens
+pub mod SpellingAtoms
+pub mod Spelling
 mod Again

@@ -6,3 +6,5 @@ mod Lined
 mod Spelling
 mod SpellingTrees
 mod SpellingDeclared
+mod SpellingSigns
+mod SpellingExprs

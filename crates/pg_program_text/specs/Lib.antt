@@ -5,3 +5,4 @@ pub mod Thread
 pub mod Text
 pub mod Grammar
 pub mod Spelling
+pub mod SpellingLaws

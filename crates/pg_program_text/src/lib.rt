@@ -6,3 +6,5 @@ mod keyword;
 mod print;
 mod stmt;
 mod thread;
+
+pub use print::{expressions_stand, print_thread};

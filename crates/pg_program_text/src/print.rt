@@ -11,6 +11,7 @@ ghost use Rattle.pg_assertion.specs.Formula.{plain};
 ghost use Rattle.pg_assertion_text.specs.Spelling.{EachAtom, NamesDeclared, in_brackets, location_name, scalar_name};
 ghost use Rattle.pg_program_text.specs.Spelling as spec;
 ghost use Rattle.pg_program_text.specs.Spelling.{tree};
+ghost use Rattle.pg_program_text.specs.SpellingLaws.{ExpressionsStand};
 
 use itoa::Buffer;
 use pg_assertion::{Formula, ViewAtom};
@@ -425,3 +426,12 @@ pub fn print_thread(
     let _rest = first_note(rest, 1, names, &mut text)?;
     into.extend_from_slice(&text)
 }
+
+// ---- laws
+
+/// The spelling of an expression is an expression of the grammar, and stands for that expression: where the declared names
+/// are names of the grammar, each number is below 2^32, no more brackets are open at once than may be, and no word goes on
+/// behind it. This function does nothing: its contract is the law.
+pub fn expressions_stand()
+    ensures { ExpressionsStand }
+{}
