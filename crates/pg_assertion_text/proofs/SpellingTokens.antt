@@ -33,7 +33,7 @@ after_of : (from c : Cursor) → Leads from c → after from ≡ after c
 unfolding after
 after_of from c leads = ap (λ (g : Cursor). advance (piece_len (piece g.rest)) g) leads.same
 
-past_blank : (at : ℕ) (rest : List ℕ) → behind_gap (cursor at (32 ∷ rest)) ≡ behind_gap (cursor (at + 1) rest)
+pub past_blank : (at : ℕ) (rest : List ℕ) → behind_gap (cursor at (32 ∷ rest)) ≡ behind_gap (cursor (at + 1) rest)
 past_blank at rest =
     let g = gap_len false rest in
     let further : at + (1 + g) ≡ at + 1 + g = omega arith in

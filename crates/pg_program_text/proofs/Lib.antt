@@ -8,3 +8,6 @@ mod SpellingTrees
 mod SpellingDeclared
 mod SpellingSigns
 mod SpellingExprs
+mod SpellingLines
+mod SpellingStmts
+mod SpellingThreads
