@@ -89,7 +89,11 @@ pub record BodyStands (names : NameTable) (ss : List Stmt) (notes : List (Plain 
   pub body : IsBody names from ss (map (with_atoms raw_of) notes) to
   pub ends : behind_gap to ≡ behind_gap behind
 
-abbrev pub ThreadsStand : Type 0
-ThreadsStand =
-    (names : NameTable) (ss : List Stmt) (notes : List (Plain ViewAtom)) (at : ℕ) (more : List ℕ) → WholeThread names ss notes
+-- the text of a thread, at any place and with anything behind it
+abbrev pub ThreadStands : NameTable → List Stmt → List (Plain ViewAtom) → Type 0
+ThreadStands names ss notes =
+    (at : ℕ) (more : List ℕ) → WholeThread names ss notes
     → BodyStands names ss notes (cursor at (spell_thread names ss notes ++ more)) (cursor (at + length (spell_thread names ss notes)) more)
+
+abbrev pub ThreadsStand : Type 0
+ThreadsStand = (names : NameTable) (ss : List Stmt) (notes : List (Plain ViewAtom)) → ThreadStands names ss notes

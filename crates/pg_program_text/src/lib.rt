@@ -4,7 +4,9 @@
 mod expr;
 mod keyword;
 mod print;
+#[cfg(test)]
+mod print_tests;
 mod stmt;
 mod thread;
 
-pub use print::{expressions_stand, print_thread};
+pub use print::{expressions_stand, print_thread, threads_stand};

@@ -11,7 +11,7 @@ ghost use Rattle.pg_assertion.specs.Formula.{plain};
 ghost use Rattle.pg_assertion_text.specs.Spelling.{EachAtom, NamesDeclared, in_brackets, location_name, scalar_name};
 ghost use Rattle.pg_program_text.specs.Spelling as spec;
 ghost use Rattle.pg_program_text.specs.Spelling.{tree};
-ghost use Rattle.pg_program_text.specs.SpellingLaws.{ExpressionsStand};
+ghost use Rattle.pg_program_text.specs.SpellingLaws.{ExpressionsStand, ThreadStands, ThreadsStand};
 
 use itoa::Buffer;
 use pg_assertion::{Formula, ViewAtom};
@@ -24,7 +24,7 @@ use std::alloc::AllocError;
 /// Appends the spelling of an expression.
 #[cycle(print)]
 #[tactic(auto, unfolding(crate::specs::Spelling::spell, crate::specs::Spelling::Declared))]
-fn spell_expr(e: &Expr, names: &Names, into: &mut Vec<u8>) -> Result<(), AllocError>
+pub(crate) fn spell_expr(e: &Expr, names: &Names, into: &mut Vec<u8>) -> Result<(), AllocError>
     requires { spec.IsDeclared names.now e.now }
     ensures { OnOk result (into.new.items ≡ into.old.items ++ spec.spell names.now (tree e.now)) }
 {
@@ -288,7 +288,7 @@ fn first_note<'a>(
 }
 
 /// Appends the line that a statement begins with.
-fn stmt_line(
+pub(crate) fn stmt_line(
     stmt: &Stmt,
     depth: u64,
     names: &Names,
@@ -386,7 +386,7 @@ fn spell_stmt<'a>(
 
 /// Appends the lines of a block, where so many braces are open, and gives the notes behind it.
 #[cycle(lines)]
-fn spell_block<'a>(
+pub(crate) fn spell_block<'a>(
     stmts: &[Stmt],
     notes: &'a [Formula<ViewAtom>],
     depth: u64,
@@ -408,7 +408,8 @@ fn spell_block<'a>(
 
 /// Appends the canonical text of a thread's body, line by line: before each statement the note of its point, and the note
 /// of the thread's end last. There has to be one note for each point, in the order of the text, and all names have to be
-/// declared. Want of memory leaves `into` as it was.
+/// declared. Want of memory leaves `into` as it was. Within the limits of a text, what was printed is a body of the grammar, and
+/// stands for these statements and notes.
 pub fn print_thread(
     stmts: &[Stmt],
     notes: &[Formula<ViewAtom>],
@@ -420,6 +421,7 @@ pub fn print_thread(
     requires notes { All (EachAtom (NamesDeclared names.now)) (map plain notes.now) }
     ensures ok { OnOk result (into.new.items ≡ into.old.items ++ spec.spell_thread names.now stmts.now (map plain notes.now)) }
     ensures err { OnErr result (into.new.items ≡ into.old.items) }
+    ensures stands { ThreadStands names.now stmts.now (map plain notes.now) }
 {
     let mut text = Vec::new(*into.allocator());
     let rest = spell_block(stmts, notes, 1, names, &mut text)?;
@@ -434,4 +436,10 @@ pub fn print_thread(
 /// behind it. This function does nothing: its contract is the law.
 pub fn expressions_stand()
     ensures { ExpressionsStand }
+{}
+
+/// The canonical text of a thread is a body of the grammar, and stands for its statements and notes: where the declared names
+/// are names of the grammar, and the limits of a text are kept. This function does nothing: its contract is the law.
+pub fn threads_stand()
+    ensures { ThreadsStand }
 {}
