@@ -10,10 +10,14 @@
 mod expr;
 mod keyword;
 pub mod laws;
+mod print;
+#[cfg(test)]
+mod print_tests;
 mod stmt;
 mod thread;
 #[cfg(test)]
 mod thread_tests;
 
+pub use print::print_thread;
 pub use stmt::{MAX_ASSIGNMENTS, MAX_EXPR_NODES, MAX_EXPR_OPEN};
 pub use thread::{MAX_BLOCKS, MAX_POINTS, ThreadText, parse_thread};
