@@ -10,3 +10,9 @@ spell_block-requires-clause-stmts c = block_declared c.args.names.now (block c.a
 
 pub returns-clause-stands : goal.returns-clause-stands
 returns-clause-stands c = threads_stand c.args.names.now c.args.stmts.now (map plain c.args.notes.now)
+
+pub returns-in_err-rest-clause-stands : goal.returns-in_err-rest-clause-stands
+returns-in_err-rest-clause-stands c = threads_stand c.args.names.now c.args.stmts.now (map plain c.args.notes.now)
+
+pub returns-in_err-_rest-clause-stands : goal.returns-in_err-_rest-clause-stands
+returns-in_err-_rest-clause-stands c = threads_stand c.args.names.now c.args.stmts.now (map plain c.args.notes.now)
