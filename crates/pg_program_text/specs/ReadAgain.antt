@@ -24,8 +24,10 @@ pub record IsReadAgain (names : NameTable) (ss : List Stmt) (notes : List (Plain
   pub ends : behind_gap to ≡ behind_gap behind
 
 -- at any place, where a token follows that begins no statement
-abbrev pub ThreadsAreReadAgain : Type 0
-ThreadsAreReadAgain =
-    (names : NameTable) (ss : List Stmt) (notes : List (Plain ViewAtom)) (at : ℕ) (more : List ℕ) → WholeThread names ss notes → length notes ≤ MAX_POINTS
-    → BeginsNone names (cursor (at + length (spell_thread names ss notes)) more)
+abbrev pub ThreadIsReadAgain : NameTable → List Stmt → List (Plain ViewAtom) → Type 0
+ThreadIsReadAgain names ss notes =
+    (at : ℕ) (more : List ℕ) → WholeThread names ss notes → length notes ≤ MAX_POINTS → BeginsNone names (cursor (at + length (spell_thread names ss notes)) more)
     → IsReadAgain names ss notes (cursor at (spell_thread names ss notes ++ more)) (cursor (at + length (spell_thread names ss notes)) more)
+
+abbrev pub ThreadsAreReadAgain : Type 0
+ThreadsAreReadAgain = (names : NameTable) (ss : List Stmt) (notes : List (Plain ViewAtom)) → ThreadIsReadAgain names ss notes

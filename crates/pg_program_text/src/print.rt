@@ -11,7 +11,7 @@ ghost use Rattle.pg_assertion.specs.Formula.{plain, AllAtoms};
 ghost use Rattle.pg_assertion_text.specs.Spelling.{NamesDeclared, in_brackets, location_name, scalar_name};
 ghost use Rattle.pg_program_text.specs.Spelling as spec;
 ghost use Rattle.pg_program_text.specs.Spelling.{tree};
-ghost use Rattle.pg_program_text.specs.SpellingLaws.{ThreadStands};
+ghost use Rattle.pg_program_text.specs.ReadAgain.{ThreadIsReadAgain};
 
 use itoa::Buffer;
 use pg_assertion::{Formula, ViewAtom};
@@ -407,8 +407,8 @@ pub(crate) fn spell_block<'a>(
 
 /// Appends the canonical text of a thread's body, line by line: before each statement the note of its point, and the note
 /// of the thread's end last. There has to be one note for each point, in the order of the text, and all names have to be
-/// declared. Want of memory leaves `into` as it was. Within the limits of a text, what was printed is a body of the grammar, and
-/// stands for these statements and notes.
+/// declared. Want of memory leaves `into` as it was. Within the limits of a text, what was printed is read as these statements
+/// and notes again.
 pub fn print_thread(
     stmts: &[Stmt],
     notes: &[Formula<ViewAtom>],
@@ -420,7 +420,7 @@ pub fn print_thread(
     requires notes { All (AllAtoms (NamesDeclared names.now)) (map plain notes.now) }
     ensures ok { OnOk result (into.new.items ≡ into.old.items ++ spec.spell_thread names.now stmts.now (map plain notes.now)) }
     ensures err { OnErr result (into.new.items ≡ into.old.items) }
-    ensures stands { ThreadStands names.now stmts.now (map plain notes.now) }
+    ensures again { ThreadIsReadAgain names.now stmts.now (map plain notes.now) }
 {
     let mut text = Vec::new(*into.allocator());
     let rest = spell_block(stmts, notes, 1, names, &mut text)?;
