@@ -15,13 +15,13 @@ use Rattle.pg_assertion_text.proofs.SpellingAtoms.{IsSpelled, raw_spelled, crash
 at_least : (r : Rule) → looseness unary ≤ looseness r
 at_least r = omega arith
 
-at_most : (r : Rule) → looseness r ≤ looseness formula
+pub at_most : (r : Rule) → looseness r ≤ looseness formula
 at_most unary = omega arith
 at_most conj = omega arith
 at_most disj = omega arith
 at_most formula = omega arith
 
-each_mapped : {T : Type 0} {P Q : T → Type 0} → ((a : T) → P a → Q a) → (f : Plain T) → AllAtoms P f → AllAtoms Q f
+pub each_mapped : {T : Type 0} {P Q : T → Type 0} → ((a : T) → P a → Q a) → (f : Plain T) → AllAtoms P f → AllAtoms Q f
 each_mapped h top each = tt
 each_mapped h bottom each = tt
 each_mapped h (atom a) each = h a each
@@ -53,11 +53,11 @@ nodes-with_atoms image (implies f g) = ap₂ (λ (n m : ℕ). 1 + (n + m)) (node
 
 module _ {T U : Type 0} (names : NameTable) (IsAtom : Cursor → U → Cursor → Type 0) (image : T → U) (of_atom : T → List ℕ) where
   -- from one place to another there stands the formula
-  abbrev Phrase : Rule → ℕ → Plain T → Cursor → Cursor → Type 0
+  abbrev pub Phrase : Rule → ℕ → Plain T → Cursor → Cursor → Type 0
   Phrase rule n f from to = Is names IsAtom rule n from (with_atoms image f) to
 
   -- a phrase of a rule is one of each looser rule
-  loosened : (r q : Rule) (n : ℕ) (from to : Cursor) (f : Plain U) → looseness r ≤ looseness q → Is names IsAtom r n from f to → Is names IsAtom q n from f to
+  pub loosened : (r q : Rule) (n : ℕ) (from to : Cursor) (f : Plain U) → looseness r ≤ looseness q → Is names IsAtom r n from f to → Is names IsAtom q n from f to
   loosened unary unary n from to f h is = is
   loosened unary conj n from to f h is = a_conj n from to f is
   loosened unary disj n from to f h is = a_disj n from to f (a_conj n from to f is)
@@ -111,7 +111,7 @@ module _ {T U : Type 0} (names : NameTable) (IsAtom : Cursor → U → Cursor �
   begins (either f g) each more = first_begins (is_loose disj f) (spell of_atom f) _ more (begins f each.0)
   begins (implies f g) each more = first_begins (is_loose disj f) (spell of_atom f) _ more (begins f each.0)
 
-  spells : (f : Plain T) (n : ℕ) → AllAtoms (IsSpelled IsAtom image of_atom) f → opens f ≤ n → Spells Ends (Phrase (rule_of f) n f) (spell of_atom f)
+  pub spells : (f : Plain T) (n : ℕ) → AllAtoms (IsSpelled IsAtom image of_atom) f → opens f ≤ n → Spells Ends (Phrase (rule_of f) n f) (spell of_atom f)
   unfolding spell opens with_atoms
   spells top n each h = mapped (true_stands names) (λ from to stands. a_true n from to stands)
   spells bottom n each h = mapped (false_stands names) (λ from to stands. a_false n from to stands)

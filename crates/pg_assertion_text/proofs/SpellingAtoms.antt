@@ -70,7 +70,7 @@ ends_digits : (more : List ℕ) → Ends more → Stops is_digit more
 ends_digits [] h = tt
 ends_digits (b ∷ bs) h = no_digit (is_lower b) (is_digit b) (b == 95) h
 
-number_spells : (names : NameTable) (n : ℕ) → n < 2 ^ 32 → Spells Ends (Stands names (number n)) (decimal n)
+pub number_spells : (names : NameTable) (n : ℕ) → n < 2 ^ 32 → Spells Ends (Stands names (number n)) (decimal n)
 number_spells names n small =
     let digits : AreDigits n (decimal n) = decimal_is n (omega arith) in
     number_stands names n (decimal n) (λ more ok. (digits.begins, (digits.all_in, ends_digits more ok), sym digits.value_is, small))
@@ -99,27 +99,27 @@ has_name {V} entries i are within =
 name_is : {V : Type 0} (entries : List (List ℕ × V)) (i : ℕ) (h : HasName entries i) → h.name ≡ name_in entries i
 name_is {V} entries i h = sym (ap (λ (o : Option (List ℕ × V)). unwrap_or (option_map (λ e. e.0) o) []) h.stands)
 
-location_spells : (names : NameTable) (x : ℕ) → IsNameTable names → AreNames names → x < length names.locations
+pub location_spells : (names : NameTable) (x : ℕ) → IsNameTable names → AreNames names → x < length names.locations
     → Spells Ends (Stands names (location x)) (location_name names x)
 location_spells names x table are within =
     let h = has_name names.locations x are.locations within in
     subst (Spells Ends (Stands names (location x))) (name_is names.locations x h)
     (word_stands names (location x) h.name (λ place. (refl, h.is_name.free, table.own_location x h.entry h.name h.stands)) h.is_name.begins h.is_name.word h.is_name.short)
 
-scalar_spells : (names : NameTable) (r : ℕ) → IsNameTable names → AreNames names → r < length names.scalars
+pub scalar_spells : (names : NameTable) (r : ℕ) → IsNameTable names → AreNames names → r < length names.scalars
     → Spells Ends (Stands names (scalar r)) (scalar_name names r)
 scalar_spells names r table are within =
     let h = has_name names.scalars r are.scalars within in
     subst (Spells Ends (Stands names (scalar r))) (name_is names.scalars r h)
     (word_stands names (scalar r) h.name (λ place. (refl, h.is_name.free, table.own_scalar r h.entry h.name h.stands)) h.is_name.begins h.is_name.word h.is_name.short)
 
-name_begins : {V : Type 0} (entries : List (List ℕ × V)) (i : ℕ) → All (λ e. IsName e.0) entries → i < length entries → Begins is_lower (name_in entries i)
+pub name_begins : {V : Type 0} (entries : List (List ℕ × V)) (i : ℕ) → All (λ e. IsName e.0) entries → i < length entries → Begins is_lower (name_in entries i)
 name_begins entries i are within =
     let h = has_name entries i are within in subst (Begins is_lower) (name_is entries i h) h.is_name.begins
 
 -- ---- items
 
-last : {P : List ℕ → Type 0} {names : NameTable} {i : Item} {w : List ℕ} → Spells P (Stands names i) w → Spells P (Stand names (i ∷ [])) w
+pub last : {P : List ℕ → Type 0} {names : NameTable} {i : Item} {w : List ℕ} → Spells P (Stands names i) w → Spells P (Stand names (i ∷ [])) w
 last a = mapped a (λ from to stands. (to, stands, refl))
 
 abbrev EachSpells : NameTable → List Item → List (List ℕ) → Type 0

@@ -33,7 +33,7 @@ after_of : (from c : Cursor) → Leads from c → after from ≡ after c
 unfolding after
 after_of from c leads = ap (λ (g : Cursor). advance (piece_len (piece g.rest)) g) leads.same
 
-past_blank : (at : ℕ) (rest : List ℕ) → behind_gap (cursor at (32 ∷ rest)) ≡ behind_gap (cursor (at + 1) rest)
+pub past_blank : (at : ℕ) (rest : List ℕ) → behind_gap (cursor at (32 ∷ rest)) ≡ behind_gap (cursor (at + 1) rest)
 past_blank at rest =
     let g = gap_len false rest in
     let further : at + (1 + g) ≡ at + 1 + g = omega arith in
@@ -81,7 +81,7 @@ widened a = record { stands = λ from at more ok leads. a.stands from at more tt
 
 -- ---- tokens
 
-token_stands : {P : List ℕ → Type 0} (names : NameTable) (item : Item) (k : TokenKind) (w : List ℕ)
+pub token_stands : {P : List ℕ → Type 0} (names : NameTable) (item : Item) (k : TokenKind) (w : List ℕ)
     → ((place : ℕ) → Matches names item (record { kind = k; place = place; text = w })) → ((more : List ℕ) → P more → IsToken k w more)
     → Spells P (Stands names item) w
 token_stands {P} names item k w matches is_token = record {
@@ -97,12 +97,12 @@ token_stands {P} names item k w matches is_token = record {
       };
 }
 
-sign_is_token : (z : Sign) (b : ℕ) (bs more : List ℕ) → spelling z ≡ b ∷ bs → sign_of b (slice_index (bs ++ more) 0) ≡ Some z
+pub sign_is_token : (z : Sign) (b : ℕ) (bs more : List ℕ) → spelling z ≡ b ∷ bs → sign_of b (slice_index (bs ++ more) 0) ≡ Some z
     → IsToken (kind.Sign z) (b ∷ bs) more
 sign_is_token z b bs more is found =
     (sym is, λ t rest split. subst (λ (w : List ℕ). length (spelling t) ≤ length w) is (sign_is_longest b (bs ++ more) z t rest found split))
 
-sign_stands : (names : NameTable) (z : Sign) (b : ℕ) (bs : List ℕ) → spelling z ≡ b ∷ bs
+pub sign_stands : (names : NameTable) (z : Sign) (b : ℕ) (bs : List ℕ) → spelling z ≡ b ∷ bs
     → ((more : List ℕ) → sign_of b (slice_index (bs ++ more) 0) ≡ Some z) → Spells Anything (Stands names (sign z)) (b ∷ bs)
 sign_stands names z b bs is found =
     token_stands names (sign z) (kind.Sign z) (b ∷ bs) (λ place. refl) (λ more ok. sign_is_token z b bs more is (found more))

@@ -9,3 +9,12 @@ mod PartsSound
 pub mod ThreadSound
 mod PartsComplete
 mod ThreadComplete
+mod Spelling
+mod SpellingTrees
+mod SpellingDeclared
+mod SpellingSigns
+mod SpellingExprs
+mod SpellingLines
+mod SpellingStmts
+mod SpellingThreads
+mod Again

@@ -4,3 +4,6 @@ pub mod Stmt
 pub mod Thread
 pub mod Grammar
 pub mod Text
+pub mod Spelling
+pub mod SpellingLaws
+pub mod ReadAgain

@@ -2,8 +2,28 @@
 //! the law.
 
 ghost use Rattle.pg_program_text.specs.Text.{HasOneReading};
+ghost use Rattle.pg_program_text.specs.SpellingLaws.{ExpressionsStand, ThreadsStand};
+ghost use Rattle.pg_program_text.specs.ReadAgain.{ThreadsAreReadAgain};
 
 /// From a place of a text there is at most one body of a thread to read, and it ends at one place.
 pub fn a_body_has_one_reading()
     ensures { HasOneReading }
+{}
+
+/// The spelling of an expression is an expression of the grammar, and stands for that expression: where the declared names
+/// are names of the grammar, each number is below 2^32, no more brackets are open at once than may be, and no word goes on
+/// behind it.
+pub fn expressions_stand()
+    ensures { ExpressionsStand }
+{}
+
+/// The canonical text of a thread is a body of the grammar, and stands for its statements and notes: where the declared names
+/// are names of the grammar, and the limits of a text are kept.
+pub fn threads_stand()
+    ensures { ThreadsStand }
+{}
+
+/// A thread is read again at any place where its canonical text was printed, and nothing of that text but blanks is left.
+pub fn threads_are_read_again()
+    ensures { ThreadsAreReadAgain }
 {}
