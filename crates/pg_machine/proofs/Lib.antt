@@ -6,3 +6,4 @@ pub mod Taken
 pub mod Faults
 pub mod ViewsKept
 pub mod WellFormed
+pub mod Plain
