@@ -4,3 +4,4 @@ pub mod Moves
 pub mod Step
 pub mod Fault
 pub mod Held
+pub mod Plain
