@@ -51,9 +51,10 @@ module _ (names : NameTable) where
       (bracket_declared rest (All-behind IsScalar (reads a.expr) (bracket_scalars rest) behind))
 
   pub stmt_declared : (s : Stmt) → IsStmt names s → StmtDeclared names s
-  stmt_declared s h =
-      (act_declared (out-Act (out-Stmt s).act) (All-front IsScalar (outside s) (bracket_scalars (out-Stmt s).aux) h.scalars) h.locations,
-        bracket_declared (out-Stmt s).aux (All-behind IsScalar (outside s) (bracket_scalars (out-Stmt s).aux) h.scalars))
+  stmt_declared s h = (
+    act_declared (out-Act (out-Stmt s).act) (All-front IsScalar (outside s) (bracket_scalars (out-Stmt s).aux) h.scalars) h.locations,
+    bracket_declared (out-Stmt s).aux (All-behind IsScalar (outside s) (bracket_scalars (out-Stmt s).aux) h.scalars),
+  )
 
   pub block_declared : (b : Block) → All (IsStmt names) (statements b) → BlockDeclared names b
   unfolding BlockDeclared

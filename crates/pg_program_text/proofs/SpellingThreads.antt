@@ -237,23 +237,23 @@ module _ (names : NameTable) (table : IsNameTable names) (are : AreNames names) 
       let R = spell_block names depth r behind in
       let text = stmt_line names depth s ++ (A ++ (else_line depth b ++ (B ++ last_line depth s))) in
       let of_x : Written (StmtAt n (stmt_of x aux) ms) text =
-          stmt_written x aux n depth fs
-          (λ m h. below (first_of s) m (depth + 1) fs (omega arith) (All-front P (statements a) (statements b ++ statements r) inner) h (omega arith) each)
-          (λ m h. below (second_of s) m (depth + 1) behind_first (omega arith) (All-front P (statements b) (statements r) others) h (omega arith) (all_drop WholeNote (size a) fs each))
-          (omega arith) w.act w.assignments w.few w.bare
-          in
+      stmt_written x aux n depth fs
+      (λ m h. below (first_of s) m (depth + 1) fs (omega arith) (All-front P (statements a) (statements b ++ statements r) inner) h (omega arith) each)
+      (λ m h. below (second_of s) m (depth + 1) behind_first (omega arith) (All-front P (statements b) (statements r) others) h (omega arith) (all_drop WholeNote (size a) fs each))
+      (omega arith) w.act w.assignments w.few w.bare
+      in
       let of_s : Written (StmtAt n s ms) text = subst (λ (y : Act). Written (StmtAt n (roll-Stmt (record { act = y; aux = aux })) ms) text) (roll-out-Act (out-Stmt s).act) of_x in
       let rest : Written (LinesAt n ss (raws (take (size r) behind))) R =
-          below ss n depth behind (omega arith) (All-behind P (statements b) (statements r) others) (omega arith) (omega arith) (all_drop WholeNote (size b) behind_first (all_drop WholeNote (size a) fs each))
-          in
+      below ss n depth behind (omega arith) (All-behind P (statements b) (statements r) others) (omega arith) (omega arith) (all_drop WholeNote (size b) behind_first (all_drop WholeNote (size a) fs each))
+      in
       let note = lined depth (note_spells names table are f (All-head WholeNote f fs are_notes)) (λ more. tt) in
       let X = LinesAt n (s ∷ ss) (raws (take (size (LineOf s ss)) (f ∷ fs))) in
       let together : Written X (note_line names depth (f ∷ fs) ++ (text ++ R)) =
-          changed (followed note (followed of_s rest))
-          (λ from to way.
-          subst (λ (ns : List (Plain RawAtom)). IsPart names lines n from (s ∷ ss) ns to) (notes_are (size a) (size b) (size r) f fs)
-          (a_line n (with_atoms raw_of f) s ss ms (raws (take (size r) behind)) from way.0 way.2.0 to way.1 way.2.1 way.2.2))
-          in
+      changed (followed note (followed of_s rest))
+      (λ from to way.
+      subst (λ (ns : List (Plain RawAtom)). IsPart names lines n from (s ∷ ss) ns to) (notes_are (size a) (size b) (size r) f fs)
+      (a_line n (with_atoms raw_of f) s ss ms (raws (take (size r) behind)) from way.0 way.2.0 to way.1 way.2.1 way.2.2))
+      in
       subst (λ (t : List ℕ). Written X (note_line names depth (f ∷ fs) ++ t)) (assoc (stmt_line names depth s) A (else_line depth b) B (last_line depth s) R) together
 
   lines_written : (k : ℕ) → Below k
@@ -299,8 +299,8 @@ threads_stand names ss notes at more w =
     let before = lines_written names w.table w.names_are n ss MAX_BLOCKS 1 notes (omega arith) w.stmts w.shallow (omega arith) w.formulas in
     let last = lined 1 (note_spells names w.table w.names_are l.note last_whole) (λ more. tt) in
     let last_line : Written (λ from to. IsNote names from (with_atoms raw_of l.note) to) (note_line names 1 (drop n notes)) =
-        subst (λ (fs : Notes). Written (λ from to. IsNote names from (with_atoms raw_of l.note) to) (note_line names 1 fs)) (sym l.behind) last
-        in
+    subst (λ (fs : Notes). Written (λ from to. IsNote names from (with_atoms raw_of l.note) to) (note_line names 1 fs)) (sym l.behind) last
+    in
     let all = followed before last_line in
     let from = cursor at (spell_thread names ss notes ++ more) in
     let got = all.stands from at more (here from) in

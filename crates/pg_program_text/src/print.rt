@@ -136,7 +136,10 @@ fn spell_act(act: &Act, names: &Names, into: &mut Vec<u8>) -> Result<(), AllocEr
             location(*x, names, into)?;
             assigned(expr, names, into)
         }
-        Act::Load { target, location: x } => {
+        Act::Load {
+            target,
+            location: x,
+        } => {
             scalar(*target, names, into)?;
             into.extend_from_slice(b" := ")?;
             location(*x, names, into)
@@ -191,11 +194,7 @@ fn swapped(
 }
 
 /// Appends `a := e`.
-fn spell_assignment(
-    assign: &AuxAssign,
-    names: &Names,
-    into: &mut Vec<u8>,
-) -> Result<(), AllocError>
+fn spell_assignment(assign: &AuxAssign, names: &Names, into: &mut Vec<u8>) -> Result<(), AllocError>
     requires { spec.AssignmentDeclared names.now assign.now }
     ensures { OnOk result (into.new.items ≡ into.old.items ++ spec.spell_assignment names.now assign.now) }
 {

@@ -108,13 +108,7 @@ fn declared(alloc: Global) -> Result<Names, Fail>
 
 /// Two expressions with a sign between.
 #[tactic(auto, unfolding(crate::specs::Spelling::Declared))]
-fn joined(
-    alloc: Global,
-    names: &Names,
-    sign: Binary,
-    a: Expr,
-    b: Expr,
-) -> Result<Expr, AllocError>
+fn joined(alloc: Global, names: &Names, sign: Binary, a: Expr, b: Expr) -> Result<Expr, AllocError>
     requires { spec.IsDeclared names.now a × spec.IsDeclared names.now b }
     ensures { IfOk result (λ e. spec.IsDeclared names.now e) }
 {
@@ -228,6 +222,13 @@ fn acts_have_their_spelling(rt: HostRuntime) -> Result<(), Fail> {
     assert!(rt; is_line(alloc, &names, Act::Mfence, b"  mfence;\n")?);
     assert!(rt; is_line(alloc, &names, Act::Sfence, b"  sfence;\n")?);
     assert!(rt; is_line(alloc, &names, Act::Flush { location: 0 }, b"  flush x;\n")?);
-    assert!(rt; is_line(alloc, &names, Act::Flushopt { location: 1 }, b"  flushopt y_2;\n")?);
+    assert!(rt;
+        is_line(
+            alloc,
+            &names,
+            Act::Flushopt { location: 1 },
+            b"  flushopt y_2;\n"
+        )?
+    );
     Ok(())
 }

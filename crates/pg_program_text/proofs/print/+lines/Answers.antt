@@ -37,16 +37,16 @@ spell_block-stmts-preserved t c =
     let few = c.stmts.invariant.4 in
     let lines = stmt_lines names depth s first second notes in
     let text =
-        ap₂ (λ (w : List ℕ) (fs : List (Plain ViewAtom)). w ++ spell_block names depth left fs) c.in_ok-rest.ensures.text c.in_ok-rest.ensures.rest
-        ∙ append_assoc c.stmts.into.items lines (spell_block names depth left behind)
-        ∙ ap (λ (w : List ℕ). c.stmts.into.items ++ w) (sym (text_turn ss i s c.stmts-test.true c.stmt-item.is names depth notes))
-        ∙ c.stmts.invariant.0
-        in
+    ap₂ (λ (w : List ℕ) (fs : List (Plain ViewAtom)). w ++ spell_block names depth left fs) c.in_ok-rest.ensures.text c.in_ok-rest.ensures.rest
+    ∙ append_assoc c.stmts.into.items lines (spell_block names depth left behind)
+    ∙ ap (λ (w : List ℕ). c.stmts.into.items ++ w) (sym (text_turn ss i s c.stmts-test.true c.stmt-item.is names depth notes))
+    ∙ c.stmts.invariant.0
+    in
     let rest =
-        ap (λ (fs : List (Plain ViewAtom)). drop (size left) fs) c.in_ok-rest.ensures.rest
-        ∙ sym (notes_turn ss i s c.stmts-test.true c.stmt-item.is notes)
-        ∙ c.stmts.invariant.1
-        in
+    ap (λ (fs : List (Plain ViewAtom)). drop (size left) fs) c.in_ok-rest.ensures.rest
+    ∙ sym (notes_turn ss i s c.stmts-test.true c.stmt-item.is notes)
+    ∙ c.stmts.invariant.1
+    in
     let P = EachAtom (NamesDeclared names) in
     let each : All P behind = all_drop P (size second) (drop (size first) (drop 1 notes)) (all_drop P (size first) (drop 1 notes) (all_drop P 1 notes c.stmts.invariant.3)) in
     (text, rest, are.3, subst (All P) (sym c.in_ok-rest.ensures.rest) each, omega arith)
