@@ -86,17 +86,6 @@ fn program(alloc: Global) -> Result<Program, Fail> {
     Ok(Program::build(alloc, names(alloc)?, threads)?)
 }
 
-/// The fault that an event has, if it has one.
-fn fault(state: &mut State, p: &Program, event: Event) -> Option<StepFault>
-    requires { IsWellFormed p.now state.old.state }
-    ensures { IsWellFormed p.now state.new.state }
-{
-    match state.step(p, event) {
-        Ok(()) => None,
-        Err(fault) => Some(fault),
-    }
-}
-
 /// A thread, the position that it chooses, and the fault that is wanted.
 type Line = (u32, Option<u32>, Option<StepFault>);
 
@@ -145,23 +134,37 @@ const ALONE: [Line; 6] = [
     (2, None, Some(StepFault::Ended)),
 ];
 
+/// Takes the lines one after the other, and tells whether each has the fault that is wanted.
+fn follows(state: &mut State, p: &Program, lines: &[Line]) -> bool
+    requires { IsWellFormed p.now state.old.state }
+    ensures { IsWellFormed p.now state.new.state }
+{
+    let mut all = true;
+    for (thread, choice, wanted) in lines {
+        let event = Event {
+            thread: *thread,
+            choice: *choice,
+        };
+        let told = match state.step(p, event) {
+            Ok(()) => None,
+            Err(fault) => Some(fault),
+        };
+        all = all && told == *wanted;
+    }
+    all
+}
+
 #[test]
 fn takes_steps(rt: HostRuntime) -> Result<(), Fail> {
     let alloc = rt.alloc();
     let p = program(alloc)?;
     let mut state = State::fresh(alloc, &p)?;
     state.reserve(3)?;
-    for (thread, choice, wanted) in BUFFERED {
-        let told = fault(&mut state, &p, Event { thread, choice });
-        assert_eq!(rt; told, wanted);
-    }
+    assert!(rt; follows(&mut state, &p, &BUFFERED));
     assert_eq!(rt; state.scalars(), [0, 1].as_slice());
     assert_eq!(rt; state.messages(), 3);
     let mut state = State::fresh(alloc, &p)?;
-    for (thread, choice, wanted) in ALONE {
-        let told = fault(&mut state, &p, Event { thread, choice });
-        assert_eq!(rt; told, wanted);
-    }
+    assert!(rt; follows(&mut state, &p, &ALONE));
     assert_eq!(rt; state.scalars(), [0, 0].as_slice());
     assert_eq!(rt; state.messages(), 1);
     Ok(())
