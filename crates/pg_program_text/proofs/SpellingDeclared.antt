@@ -1,5 +1,5 @@
 -- In statements over names all that is spelled is declared.
-use Rattle.std.proofs.Common.{◌≡◌, ℕ, ◌<◌, List, [], ◌∷◌, ◌++◌, length}
+use Rattle.std.proofs.Common.{ℕ, ◌<◌, List, [], ◌∷◌, ◌++◌, length}
 use Rattle.std.specs.List.{All}
 use Rattle.std.proofs.lemmas.List.Elements.{All-nil, All-cons, All-head, All-tail}
 use Rattle.pg_program.specs.declared.syntax.Stmt.{Stmt, out-Stmt}
@@ -13,7 +13,7 @@ use Rattle.pg_program.specs.Fault.{outside, outside_in, bracket_scalars, locatio
 use Rattle.pg_program.specs.Block.{Block, done, node}
 use Rattle.pg_program.specs.Graph.{statements}
 use Rattle.pg_program.specs.Program.{IsStmt}
-use Rattle.pg_program.proofs.ExprLemmas.{All-front, All-behind, AreBelow}
+use Rattle.pg_program.proofs.ExprLemmas.{All-front, All-behind}
 use Rattle.pg_program_text.specs.Spelling.{TestDeclared, ActDeclared, AssignmentDeclared, StmtDeclared, BlockDeclared}
 use Rattle.pg_program_text.proofs.SpellingTrees.{expr_declared}
 

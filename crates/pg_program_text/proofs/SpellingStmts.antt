@@ -1,5 +1,5 @@
 -- What notes, tests, acts and brackets are spelled with stands for them.
-use Rattle.std.proofs.Common.{◌≡◌, ℕ, zero, suc, ◌+◌, ◌<◌, ◌≤◌, Bool, true, false, List, [], ◌∷◌, ◌++◌, length, refl, sym, ap, subst, arith}
+use Rattle.std.proofs.Common.{◌≡◌, ℕ, zero, suc, ◌+◌, ◌≤◌, Bool, true, false, List, [], ◌∷◌, ◌++◌, length, refl, sym, ap, subst, arith}
 use Rattle.std.specs.Prelude.{codes}
 use Rattle.std.specs.List.{All}
 use Rattle.std.proofs.lemmas.List.Elements.{All-head, All-tail}
@@ -22,7 +22,7 @@ use Rattle.pg_assertion_text.specs.Input.{is_sign}
 use Rattle.pg_assertion_text.specs.Follows.{Stops}
 use Rattle.pg_assertion_text.specs.Atoms.{IsRaw}
 use Rattle.pg_assertion_text.specs.Grammar as formulas
-use Rattle.pg_assertion_text.specs.Spelling.{AreNames, Ends, location_name, scalar_name, spell_atom, raw_of}
+use Rattle.pg_assertion_text.specs.Spelling.{AreNames, Ends, spell_atom, raw_of}
 use Rattle.pg_assertion_text.specs.Spelling as formula_spelling
 use Rattle.pg_assertion_text.specs.SpellingLaws as formula_laws
 use Rattle.pg_assertion_text.specs.ReadAgain.{IsWhole}

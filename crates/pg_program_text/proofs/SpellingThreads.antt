@@ -1,5 +1,5 @@
 -- What the lines of a thread are spelled with stands for its statements and notes.
-use Rattle.std.proofs.Common.{◌≡◌, ℕ, zero, suc, ◌+◌, ◌≤◌, Bool, true, false, max, List, [], ◌∷◌, ◌++◌, length, take, drop, map, refl, sym, ap, ap₂, subst, ◌∙◌, arith, append_assoc}
+use Rattle.std.proofs.Common.{◌≡◌, ℕ, zero, suc, ◌+◌, ◌≤◌, true, false, max, List, [], ◌∷◌, ◌++◌, length, take, drop, map, refl, sym, ap, subst, ◌∙◌, arith, append_assoc}
 use Rattle.std.specs.Prelude.{codes, if◌then◌else◌}
 use Rattle.std.specs.List.{All}
 use Rattle.std.proofs.lemmas.List.{append-nil, map-append, length-drop}
@@ -13,7 +13,7 @@ use Rattle.pg_program.specs.declared.syntax.Stmt.{Stmt, out-Stmt, roll-Stmt}
 use Rattle.pg_program.specs.declared.syntax.Act.{Act, out-Act, roll-Act, roll-out-Act}
 use Rattle.pg_program.specs.declared.syntax.Act.TheOpen.{Act-F, Assign, Store, Load, Cas, Mfence, Sfence, Flush, Flushopt, If, While}
 use Rattle.pg_program.specs.declared.syntax.Act.TheVariants as act
-use Rattle.pg_program.specs.Block.{Block, done, node, block, first_in, second_in, first_of, second_of}
+use Rattle.pg_program.specs.Block.{Block, node, block, first_in, second_in, first_of, second_of}
 use Rattle.pg_program.specs.Graph.{size, statements, is_test_in}
 use Rattle.pg_program.proofs.BlockLemmas.{block-nests}
 use Rattle.pg_program.proofs.ExprLemmas.{All-front, All-behind}
@@ -21,23 +21,23 @@ use Rattle.pg_assertion.specs.declared.atom.ViewAtom.{ViewAtom}
 use Rattle.pg_assertion.specs.declared.atom.RawAtom.{RawAtom}
 use Rattle.pg_assertion.specs.Formula.{Plain, with_atoms}
 use Rattle.pg_assertion_text.specs.Words.{Stands, sign, word}
-use Rattle.pg_assertion_text.specs.Spelling.{AreNames, raw_of, spell_atom}
+use Rattle.pg_assertion_text.specs.Spelling.{AreNames, raw_of}
 use Rattle.pg_assertion_text.specs.SpellingLaws as formula_laws
 use Rattle.pg_assertion_text.specs.SpellingLaws.{cursor}
 use Rattle.pg_assertion_text.specs.ReadAgain.{IsWhole}
-use Rattle.pg_assertion_text.proofs.SpellingTokens.{Spells, Anything, Then, joined, blank, mapped, here}
+use Rattle.pg_assertion_text.proofs.SpellingTokens.{Then, joined, blank, mapped, here}
 use Rattle.pg_program_text.specs.declared.keyword.Keyword.TheVariants as k
 use Rattle.pg_program_text.specs.declared.thread.TheConstants.{MAX_BLOCKS}
 use Rattle.pg_program_text.specs.declared.stmt.TheConstants.{MAX_ASSIGNMENTS}
 use Rattle.pg_program_text.specs.Keywords.{spelling}
 use Rattle.pg_program_text.specs.Thread.{bare}
-use Rattle.pg_program_text.specs.Grammar.{IsNote, IsTest, Part, stmt, lines, block as in_block, other, IsPart, a_simple, an_if, a_while, an_else, no_else, in_braces, no_lines, a_line, IsBody, last_note, body_line}
+use Rattle.pg_program_text.specs.Grammar.{IsNote, IsTest, stmt, lines, IsPart, a_simple, an_if, a_while, an_else, no_else, in_braces, no_lines, a_line, IsBody, last_note, body_line}
 use Rattle.pg_program_text.specs.Spelling.{spell_act, spell_bracket, spell_test, line, note_line, stmt_line, else_line, last_line, spell_block, spell_thread}
-use Rattle.pg_program_text.specs.SpellingLaws.{WholeTest, WholeAct, WholeAssignment, WholeStmt, nesting, WholeThread, BodyStands, ThreadsStand}
+use Rattle.pg_program_text.specs.SpellingLaws.{WholeTest, WholeAct, WholeAssignment, WholeStmt, nesting, ThreadsStand}
 use Rattle.pg_program_text.proofs.Spelling.{all_drop}
 use Rattle.pg_program_text.proofs.SpellingSigns.{open_brace_stands, close_brace_stands, if_stands, else_stands, while_stands}
 use Rattle.pg_program_text.proofs.SpellingLines.{Written, empty, followed, changed, lined}
-use Rattle.pg_program_text.proofs.SpellingStmts.{note_spells, test_spells, act_spells, Ending, ending_spells, ending_ends}
+use Rattle.pg_program_text.proofs.SpellingStmts.{note_spells, test_spells, act_spells, ending_spells, ending_ends}
 
 abbrev Notes : Type 0
 Notes = List (Plain ViewAtom)

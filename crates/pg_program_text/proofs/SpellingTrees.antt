@@ -1,13 +1,12 @@
 -- What an expression has is what its tree has.
 use Rattle.std.proofs.Common.{◌≡◌, ℕ, ◌<◌, List, [], ◌∷◌, ◌++◌, length, refl, sym, ap, ap₂, subst, ◌∙◌}
-use Rattle.std.specs.List.{All}
 use Rattle.std.proofs.lemmas.List.Elements.{All-head}
-use Rattle.pg_program.specs.declared.syntax.Expr.{Expr, roll-Expr, fold-Expr, fold-roll-Expr}
+use Rattle.pg_program.specs.declared.syntax.Expr.{Expr, roll-Expr, fold-roll-Expr}
 use Rattle.pg_program.specs.declared.syntax.Expr.TheFolds.{ind-Expr, map-Expr}
 use Rattle.pg_program.specs.declared.syntax.Expr.TheOpen.{Expr-F, Value, Scalar, Add, Sub, Mul}
 use Rattle.pg_program.specs.declared.syntax.Expr.TheVariants as e
 use Rattle.pg_program.specs.NameTable.{NameTable}
-use Rattle.pg_program.specs.Expr.{reads, reads_step, numbers, numbers_step}
+use Rattle.pg_program.specs.Expr.{reads, reads_step}
 use Rattle.pg_program.proofs.ExprLemmas.{All-front, All-behind, AreBelow}
 use Rattle.pg_program_text.specs.Spelling.{Tree, number, name, sum, difference, product, tree, tree_step, Declared, IsDeclared}
 

@@ -1,16 +1,12 @@
-//! Expressions, statements and blocks built by hand, and their canonical text.
+//! Expressions and statements built by hand, and their canonical text.
 
-ghost use Rattle.std.specs.Prelude.{◌≡◌, ◌<◌, ◌+◌, ◌^◌, [], ◌∷◌, length, map, All, IfOk};
+ghost use Rattle.std.specs.Prelude.{◌≡◌, ◌<◌, length, IfOk};
 ghost use Rattle.pg_program.specs.declared.syntax.Act.{out-Act};
-ghost use Rattle.pg_program.specs.Block.{block, first_of, second_of};
-ghost use Rattle.pg_program.specs.Graph.{size};
-ghost use Rattle.pg_assertion.specs.Formula.{plain, AllAtoms};
-ghost use Rattle.pg_assertion_text.specs.Spelling.{NamesDeclared};
 ghost use Rattle.pg_program_text.specs.Spelling as spec;
 
 use crate::print::{print_thread, spell_expr, stmt_line};
-use pg_assertion::{Formula, ViewAtom};
-use pg_program::{Act, AuxAssign, Cond, Expr, NameKind, Names, Stmt};
+use pg_assertion::Formula;
+use pg_program::{Act, AuxAssign, Expr, NameKind, Names, Stmt};
 use sqlite_items::{Boxed, Items};
 use std::alloc::{AllocError, Global};
 use std::test::Fail;
@@ -230,5 +226,40 @@ fn acts_have_their_spelling(rt: HostRuntime) -> Result<(), Fail> {
             b"  flushopt y_2;\n"
         )?
     );
+    Ok(())
+}
+
+#[test]
+#[tactic(auto, unfolding(crate::specs::Spelling::Declared))]
+fn a_bracket_has_its_assignments(rt: HostRuntime) -> Result<(), Fail> {
+    let alloc = rt.alloc();
+    let names = declared(alloc)?;
+    let mut aux = Items::new(alloc);
+    aux.push(AuxAssign {
+        target: 1,
+        expr: Expr::Value(3),
+    })?;
+    aux.push(AuxAssign {
+        target: 0,
+        expr: Expr::Scalar(1),
+    })?;
+    let stmt = Stmt {
+        act: Act::Mfence,
+        aux,
+    };
+    let mut text = Vec::new(alloc);
+    stmt_line(&stmt, 0, &names, &mut text)?;
+    assert!(rt; is(&text, b"mfence < a := 3, r := a >;\n"));
+    Ok(())
+}
+
+#[test]
+#[tactic(auto, unfolding(pg_assertion_text::specs::Spelling::EachAtom))]
+fn a_body_without_statements_is_its_last_note(rt: HostRuntime) -> Result<(), Fail> {
+    let alloc = rt.alloc();
+    let names = declared(alloc)?;
+    let mut text = Vec::new(alloc);
+    print_thread(&[], &[Formula::True], &names, &mut text)?;
+    assert!(rt; is(&text, b"  [true]\n"));
     Ok(())
 }

@@ -1,4 +1,4 @@
-use Rattle.std.proofs.Common.{◌≡◌, ◌++◌, ◌+◌, ◌∙◌, List, [], ℕ, ap, ap₂, sym, subst, arith, rules, map, drop, append_assoc}
+use Rattle.std.proofs.Common.{◌++◌, ◌+◌, ◌∙◌, List, ℕ, ap, ap₂, sym, subst, arith, map, drop, append_assoc}
 use Rattle.std.proofs.lemmas.List.{drop_all, append-nil}
 use Rattle.std.specs.List.{All}
 use Rattle.pg_program.specs.declared.syntax.Stmt.{Stmt}

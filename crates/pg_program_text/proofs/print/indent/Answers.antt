@@ -1,4 +1,4 @@
-use Rattle.std.proofs.Common.{◌≡◌, ◌++◌, ◌+◌, ◌-◌, ◌∙◌, List, ℕ, ap, sym, append_assoc}
+use Rattle.std.proofs.Common.{◌++◌, ◌+◌, ◌-◌, ◌∙◌, List, ℕ, ap, sym, append_assoc}
 use Rattle.std.specs.Prelude.{codes}
 use Rattle.pg_program_text.specs.Spelling.{indent}
 use Rattle.pg_program_text.proofs.Spelling.{indent_turn}

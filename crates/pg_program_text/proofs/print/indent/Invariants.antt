@@ -1,4 +1,4 @@
-use Rattle.std.proofs.Common.{◌≡◌, ◌++◌, ◌-◌, ◌≤◌}
+use Rattle.std.proofs.Common.{◌≡◌, ◌++◌, ◌-◌}
 use Rattle.pg_program_text.specs.Spelling.{indent}
 use Rattle.pg_program_text.proofs.print.indent.Given as goal
 
