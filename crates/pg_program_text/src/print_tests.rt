@@ -254,7 +254,6 @@ fn a_bracket_has_its_assignments(rt: HostRuntime) -> Result<(), Fail> {
 }
 
 #[test]
-#[tactic(auto, unfolding(pg_assertion_text::specs::Spelling::EachAtom))]
 fn a_body_without_statements_is_its_last_note(rt: HostRuntime) -> Result<(), Fail> {
     let alloc = rt.alloc();
     let names = declared(alloc)?;
