@@ -1,18 +1,15 @@
 -- The canonical text of a thread is in the grammar, and so it is read.
-use Rattle.std.proofs.Common.{◌≡◌, ℕ, ◌+◌, ◌≤◌, List, ◌++◌, length, map, Ok, sym, ap, subst, ◌∙◌}
+use Rattle.std.proofs.Common.{◌≡◌, ℕ, ◌+◌, ◌≤◌, ◌++◌, length, sym, ap, subst, ◌∙◌}
 use Rattle.std.proofs.lemmas.List.{length-map}
-use Rattle.pg_lex.specs.Lex.{Cursor, Lexeme, token, lexeme_at, behind_gap}
+use Rattle.pg_lex.specs.Lex.{Cursor, token, lexeme_at, behind_gap}
 use Rattle.pg_lex.specs.Piece.{piece}
 use Rattle.pg_program.specs.NameTable.{NameTable}
-use Rattle.pg_program.specs.declared.syntax.Stmt.{Stmt}
-use Rattle.pg_assertion.specs.declared.atom.ViewAtom.{ViewAtom}
-use Rattle.pg_assertion.specs.Formula.{Plain, with_atoms}
+use Rattle.pg_assertion.specs.Formula.{with_atoms}
 use Rattle.pg_assertion_text.specs.Spelling.{raw_of}
 use Rattle.pg_assertion_text.specs.SpellingLaws.{cursor}
 use Rattle.pg_program_text.specs.declared.thread.TheConstants.{MAX_POINTS}
 use Rattle.pg_program_text.specs.Grammar.{BeginsNone}
 use Rattle.pg_program_text.specs.Spelling.{spell_thread}
-use Rattle.pg_program_text.specs.SpellingLaws.{WholeThread}
 use Rattle.pg_program_text.specs.ReadAgain.{ThreadsAreReadAgain, lines_of}
 use Rattle.pg_program_text.proofs.SpellingThreads.{threads_stand}
 use Rattle.pg_program_text.proofs.ThreadComplete.{thread_reads}

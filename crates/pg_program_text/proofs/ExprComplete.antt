@@ -1,18 +1,17 @@
 -- An expression of the grammar is read, where room for its nodes is left and no token goes on with it.
-use Rattle.std.proofs.Common.{◌≡◌, ℕ, zero, suc, ◌+◌, ◌-◌, ◌<◌, ◌≤◌, Bool, true, false, Ok, Err, Some, None, List, [], ◌∷◌, refl, ap, sym, ◌∙◌, subst, arith}
+use Rattle.std.proofs.Common.{◌≡◌, ℕ, zero, suc, ◌+◌, ◌-◌, ◌<◌, ◌≤◌, false, Ok, Some, None, refl, ap, ◌∙◌, subst, arith}
 use Rattle.std.specs.Prelude.{Option, if◌then◌else◌}
 use Rattle.pg_lex.specs.declared.token.Sign.{Sign}
 use Rattle.pg_lex.specs.declared.token.Sign.TheVariants as s
-use Rattle.pg_lex.specs.declared.token.TokenKind.TheVariants as kind
 use Rattle.pg_lex.specs.declared.fault.TextKind.TheVariants.{Unexpected}
-use Rattle.pg_lex.specs.Lex.{Cursor, Lexeme, token}
+use Rattle.pg_lex.specs.Lex.{Cursor}
 use Rattle.pg_program.specs.NameTable.{NameTable}
 use Rattle.pg_program.specs.declared.name_table.NameRef.TheVariants as place
 use Rattle.pg_program.specs.declared.syntax.Expr.{Expr}
 use Rattle.pg_program.specs.declared.syntax.Expr.TheVariants as e
-use Rattle.pg_assertion_text.specs.Words.{Item, Stands, sign, number, scalar, same_sign}
+use Rattle.pg_assertion_text.specs.Words.{Stands, sign, number, scalar, same_sign}
 use Rattle.pg_assertion_text.specs.Follows.{Leaves}
-use Rattle.pg_assertion_text.specs.Input.{Input, Outcome, Parser, and_then, pure, refuse, allowed, next, node, goes_on, expect, is_sign, named, scalar_in}
+use Rattle.pg_assertion_text.specs.Input.{Input, Parser, and_then, pure, refuse, allowed, next, node, expect, is_sign, scalar_in}
 use Rattle.pg_assertion_text.specs.Steps.{bind_value, stands_token, node_reads, expect_reads, goes_on_reads, goes_on_leaves, named_reads, sign_is_same}
 use Rattle.pg_program_text.specs.Expr as x
 use Rattle.pg_program_text.specs.Expr.{Rule, Is, by_sign, times, plus_or_minus, or_minus, next_link, linked_on, linked, product, sum, deeper, scalar_factor, factor_by, factor_in, factor_of, a_number, a_scalar, a_bracket, a_term, a_product, an_expr, a_sum, a_difference}

@@ -1,19 +1,19 @@
 -- An expression that is read is in the grammar, and takes as many nodes as it has.
-use Rattle.std.proofs.Common.{◌≡◌, ◌⊎◌, inl, inr, ℕ, zero, suc, ◌+◌, Bool, true, false, Ok, Err, Some, None, List, [], ◌∷◌, ◌++◌, refl, ap, sym, ◌∙◌, subst, arith}
+use Rattle.std.proofs.Common.{◌≡◌, ◌⊎◌, inl, inr, ℕ, zero, suc, ◌+◌, Bool, true, false, Ok, Some, None, [], ◌∷◌, refl, ap, sym, ◌∙◌, subst, arith}
 use Rattle.std.specs.Prelude.{Option, if◌then◌else◌}
 use Rattle.pg_lex.specs.declared.token.Sign.{Sign}
 use Rattle.pg_lex.specs.declared.token.Sign.TheVariants as s
 use Rattle.pg_lex.specs.declared.token.TokenKind.{TokenKind}
 use Rattle.pg_lex.specs.declared.token.TokenKind.TheVariants as kind
 use Rattle.pg_lex.specs.declared.fault.TextKind.TheVariants.{Unexpected}
-use Rattle.pg_lex.specs.Lex.{Cursor, Lexeme, token, after}
+use Rattle.pg_lex.specs.Lex.{Lexeme, token, after}
 use Rattle.pg_program.specs.NameTable.{NameTable}
 use Rattle.pg_program.specs.declared.name_table.NameRef.TheVariants as place
 use Rattle.pg_program.specs.declared.syntax.Expr.{Expr}
 use Rattle.pg_program.specs.declared.syntax.Expr.TheVariants as e
-use Rattle.pg_assertion_text.specs.Words.{Item, Stands, sign, number, scalar}
-use Rattle.pg_assertion_text.specs.Input.{Input, Outcome, Parser, and_then, ◌>>◌, pure, refuse, allowed, next, node, goes_on, expect, is_sign, named, scalar_in}
-use Rattle.pg_assertion_text.specs.Steps.{ok_same, bind_then, allowed_then, next_found, node_found, node_takes, is_sign_found, Takes, takes_one, takes_then, expect_found, goes_on_found, goes_on_stops, named_found, scalar_in_found}
+use Rattle.pg_assertion_text.specs.Words.{Stands, sign, number, scalar}
+use Rattle.pg_assertion_text.specs.Input.{Input, Outcome, Parser, refuse, allowed, next, node, goes_on, expect, is_sign, named, scalar_in}
+use Rattle.pg_assertion_text.specs.Steps.{ok_same, bind_then, allowed_then, next_found, node_takes, is_sign_found, Takes, takes_one, takes_then, expect_found, goes_on_found, goes_on_stops, named_found, scalar_in_found}
 use Rattle.pg_program_text.specs.Expr as x
 use Rattle.pg_program_text.specs.Expr.{Rule, Is, by_sign, times, plus_or_minus, or_minus, next_link, linked_on, linked, product, sum, deeper, scalar_factor, factor_by, factor_in, factor_of}
 

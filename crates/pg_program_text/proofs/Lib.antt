@@ -18,3 +18,4 @@ mod SpellingLines
 mod SpellingStmts
 mod SpellingThreads
 mod Again
+mod Declared

@@ -1,5 +1,5 @@
 -- What lines that are read so far lead to, by what their next turn meets. The turn is the i-th of n, from 0.
-use Rattle.std.proofs.Common.{◌≡◌, ℕ, zero, suc, ◌+◌, ◌-◌, ◌<◌, ◌≤◌, Bool, true, false, Ok, Err, List, [], ◌∷◌, ◌++◌, refl, ap, sym, ◌∙◌, arith}
+use Rattle.std.proofs.Common.{◌≡◌, ℕ, zero, suc, ◌+◌, ◌-◌, ◌<◌, ◌≤◌, Bool, true, false, Ok, Err, [], ◌∷◌, ◌++◌, ap, ◌∙◌, arith}
 use Rattle.pg_lex.specs.declared.fault.TextFault.{TextFault}
 use Rattle.pg_lex.specs.declared.fault.TextFault.TheVariants.{At}
 use Rattle.pg_lex.specs.declared.fault.TextKind.TheVariants.{TooMany}

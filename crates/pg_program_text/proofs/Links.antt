@@ -1,5 +1,5 @@
 -- What a chain of items that is read so far leads to, by what its next turn meets. The turn is the i-th of n, from 0.
-use Rattle.std.proofs.Common.{◌≡◌, ℕ, zero, suc, ◌+◌, ◌-◌, ◌<◌, ◌≤◌, Ok, Err, Some, None, refl, ap, ◌∙◌, arith}
+use Rattle.std.proofs.Common.{◌≡◌, ℕ, zero, suc, ◌+◌, ◌-◌, ◌<◌, ◌≤◌, Ok, Err, Some, None, ap, ◌∙◌, arith}
 use Rattle.std.specs.Prelude.{Option}
 use Rattle.pg_lex.specs.declared.token.Sign.{Sign}
 use Rattle.pg_lex.specs.declared.fault.TextFault.{TextFault}

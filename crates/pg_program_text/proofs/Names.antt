@@ -3,7 +3,7 @@ use Rattle.std.proofs.Common.{◌≡◌, ℕ, ◌+◌, ◌<◌, Bool, true, fals
 use Rattle.std.specs.Prelude.{Option, option_map}
 use Rattle.std.specs.Str.{bytes_eq}
 use Rattle.pg_lex.specs.Lex.{Lexeme}
-use Rattle.pg_program.specs.NameTable.{NameTable, place_in, find, found}
+use Rattle.pg_program.specs.NameTable.{NameTable, place_in, found}
 use Rattle.pg_program.specs.declared.name_table.NameRef.TheVariants as place
 use Rattle.pg_assertion_text.specs.Input.{named}
 use Rattle.pg_assertion_text.specs.Steps.{named_found}

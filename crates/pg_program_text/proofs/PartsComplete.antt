@@ -1,17 +1,14 @@
 -- The parts of a statement that are in the grammar are read.
-use Rattle.std.proofs.Common.{◌≡◌, ◌⊎◌, inl, inr, ℕ, zero, suc, ◌+◌, ◌-◌, ◌<◌, ◌≤◌, Bool, true, false, Ok, Err, Some, None, List, [], ◌∷◌, ◌++◌, refl, ap, sym, ◌∙◌, subst, arith, append_assoc}
-use Rattle.std.specs.Prelude.{Option, if◌then◌else◌, Result}
+use Rattle.std.proofs.Common.{◌≡◌, ℕ, suc, ◌-◌, ◌<◌, Bool, true, false, Ok, Err, Some, None, List, [], ◌∷◌, ◌++◌, refl, ap, sym, ◌∙◌, subst, append_assoc}
+use Rattle.std.specs.Prelude.{Option, if◌then◌else◌}
 use Rattle.pg_lex.specs.declared.token.Sign.{Sign}
 use Rattle.pg_lex.specs.declared.token.Sign.TheVariants as s
 use Rattle.pg_lex.specs.declared.token.TokenKind.{TokenKind}
 use Rattle.pg_lex.specs.declared.token.TokenKind.TheVariants as kind
-use Rattle.pg_lex.specs.declared.fault.TextFault.{TextFault}
 use Rattle.pg_lex.specs.declared.fault.TextFault.TheVariants.{At}
-use Rattle.pg_lex.specs.declared.fault.TextKind.{TextKind}
 use Rattle.pg_lex.specs.declared.fault.TextKind.TheVariants.{Unexpected}
 use Rattle.pg_lex.specs.Lex.{Cursor, Lexeme, token}
 use Rattle.pg_program.specs.NameTable.{NameTable}
-use Rattle.pg_program.specs.Fault.{is_auxiliary}
 use Rattle.pg_program.specs.declared.name_table.NameRef.{NameRef}
 use Rattle.pg_program.specs.declared.name_table.NameRef.TheVariants as place
 use Rattle.pg_program.specs.declared.syntax.Expr.{Expr}
@@ -21,12 +18,12 @@ use Rattle.pg_program.specs.declared.syntax.Act.TheVariants as act
 use Rattle.pg_program.specs.declared.syntax.AuxAssign.{AuxAssign}
 use Rattle.pg_assertion.specs.declared.atom.RawAtom.{RawAtom}
 use Rattle.pg_assertion.specs.Formula.{Plain}
-use Rattle.pg_assertion_text.specs.Words.{Item, Stands, Stand, sign, word, location, scalar, is_reserved, same_sign}
+use Rattle.pg_assertion_text.specs.Words.{Stands, sign, word, location, scalar, is_reserved}
 use Rattle.pg_assertion_text.specs.Input as input
 use Rattle.pg_assertion_text.specs.Input.{Input, Outcome, Parser, and_then, ◌>>◌, ◌>>=◌, pure, refuse, allowed, peek, next, node, expect, is_sign, named}
 use Rattle.pg_assertion_text.specs.Atoms.{raw_atom, IsRaw}
 use Rattle.pg_assertion_text.specs.AtomLaws.{raw_found, raw_again, raw_begins}
-use Rattle.pg_assertion_text.specs.Parsing.{IsFormula, formula_at}
+use Rattle.pg_assertion_text.specs.Parsing.{IsFormula}
 use Rattle.pg_assertion_text.specs.Steps.{bind_value, peek_reads, stands_token, node_reads, expect_reads, location_reads, named_reads, sign_is_same}
 use Rattle.pg_assertion_text.proofs.Whole.{formula_at_reads}
 use Rattle.pg_program_text.specs.declared.stmt.TheConstants.{MAX_EXPR_NODES, MAX_EXPR_OPEN, MAX_ASSIGNMENTS}
@@ -35,7 +32,7 @@ use Rattle.pg_program_text.specs.declared.keyword.Keyword.TheVariants as k
 use Rattle.pg_program_text.specs.Keywords.{spelling, keyword, keyword_by, keyword_of}
 use Rattle.pg_program_text.specs.Expr as expr
 use Rattle.pg_program_text.specs.Expr.{Rule, Is, sum, factor_of, a_number, a_scalar, a_bracket, a_term, a_product, an_expr, a_sum, a_difference}
-use Rattle.pg_program_text.specs.Stmt.{with_room, expression, behind, formula, opens_note, opened, note, equal_at, told, test, swap, load_or_assign, assigned_by, assigned, to_name, named_act, act_by, an_act, auxiliary_in, one_more, assignment, goes_on_or_ends, separator, assignments_on, bracket_by, bracket}
+use Rattle.pg_program_text.specs.Stmt.{with_room, expression, behind, formula, opens_note, opened, note, equal_at, told, test, swap, load_or_assign, assigned_by, assigned, to_name, act_by, an_act, auxiliary_in, one_more, assignment, goes_on_or_ends, separator, assignments_on, bracket_by, bracket}
 use Rattle.pg_program_text.specs.Grammar.{IsExpr, IsNote, IsTest, IsAct, an_assign, a_store, a_load, a_cas, an_mfence, an_sfence, a_flush, a_flushopt, IsAssignment, AreAssignments, the_last, one_more as another, IsBracket, no_bracket, a_bracket as brackets, equality}
 use Rattle.pg_program_text.proofs.ExprComplete.{at, EndsExpr, ends_before, expr_reads}
 use Rattle.pg_program_text.proofs.PartsSound.{keyword_found}

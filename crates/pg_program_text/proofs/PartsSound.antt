@@ -1,17 +1,16 @@
 -- The parts of a statement that are read are in the grammar.
-use Rattle.std.proofs.Common.{◌≡◌, ◌⊎◌, inl, inr, ℕ, zero, suc, ◌+◌, ◌≤◌, Bool, true, false, Ok, Err, Some, None, List, [], ◌∷◌, ◌++◌, refl, ap, sym, ◌∙◌, subst, arith, append_assoc}
-use Rattle.std.specs.Prelude.{Option, if◌then◌else◌, Result, codes}
+use Rattle.std.proofs.Common.{◌≡◌, ◌⊎◌, inl, inr, ℕ, zero, suc, ◌+◌, Bool, true, false, Ok, Err, Some, None, List, [], ◌∷◌, ◌++◌, refl, ap, sym, ◌∙◌, subst, arith, append_assoc}
+use Rattle.std.specs.Prelude.{Option, if◌then◌else◌, Result}
 use Rattle.std.specs.Result.{result_unwrap_or}
 use Rattle.std.specs.Str.{bytes_eq}
 use Rattle.std.proofs.lemmas.Slice.Eq.{bytes_eq-Decides}
-use Rattle.pg_lex.specs.declared.token.Sign.{Sign}
 use Rattle.pg_lex.specs.declared.token.Sign.TheVariants as s
 use Rattle.pg_lex.specs.declared.token.TokenKind.{TokenKind}
 use Rattle.pg_lex.specs.declared.token.TokenKind.TheVariants as kind
 use Rattle.pg_lex.specs.declared.fault.TextFault.{TextFault}
 use Rattle.pg_lex.specs.declared.fault.TextFault.TheVariants.{At}
 use Rattle.pg_lex.specs.declared.fault.TextKind.{TextKind}
-use Rattle.pg_lex.specs.declared.fault.TextKind.TheVariants.{Unexpected, TooMany}
+use Rattle.pg_lex.specs.declared.fault.TextKind.TheVariants.{Unexpected}
 use Rattle.pg_lex.specs.Lex.{Cursor, Lexeme, token, after}
 use Rattle.pg_program.specs.NameTable.{NameTable}
 use Rattle.pg_program.specs.Fault.{is_auxiliary}
@@ -30,15 +29,14 @@ use Rattle.pg_assertion_text.specs.Input.{Input, Outcome, Parser, and_then, ◌>
 use Rattle.pg_assertion_text.specs.Atoms.{raw_atom, IsRaw}
 use Rattle.pg_assertion_text.specs.AtomLaws.{raw_found, raw_again, raw_begins}
 use Rattle.pg_assertion_text.specs.Parsing.{IsFormula, formula_at}
-use Rattle.pg_assertion_text.specs.Steps.{ok_same, bind_then, allowed_then, next_found, peek_found, node_found, node_takes, is_sign_found, Takes, takes_one, takes_then, expect_found, location_found, named_found}
+use Rattle.pg_assertion_text.specs.Steps.{ok_same, bind_then, allowed_then, next_found, peek_found, node_takes, is_sign_found, Takes, takes_one, takes_then, expect_found, location_found, named_found}
 use Rattle.pg_assertion_text.proofs.Whole.{formula_at_found}
 use Rattle.pg_program_text.specs.declared.stmt.TheConstants.{MAX_EXPR_NODES, MAX_EXPR_OPEN, MAX_ASSIGNMENTS}
 use Rattle.pg_program_text.specs.declared.keyword.Keyword.{Keyword}
 use Rattle.pg_program_text.specs.declared.keyword.Keyword.TheVariants as k
 use Rattle.pg_program_text.specs.Keywords.{spelling, keyword, keyword_by, keyword_of}
-use Rattle.pg_program_text.specs.Expr as expr
 use Rattle.pg_program_text.specs.Expr.{sum, factor_of}
-use Rattle.pg_program_text.specs.Stmt.{with_room, within, expression, behind, formula, opens_note, opened, note, equal_at, told, test, swap, load_or_assign, assigned_by, assigned, to_name, named_act, act_by, an_act, auxiliary_in, one_more, assignment, goes_on_or_ends, separator, assignments_on, bracket_by, bracket}
+use Rattle.pg_program_text.specs.Stmt.{with_room, expression, behind, formula, opens_note, opened, note, equal_at, told, test, swap, load_or_assign, assigned_by, assigned, to_name, named_act, act_by, an_act, auxiliary_in, one_more, assignment, goes_on_or_ends, separator, assignments_on, bracket_by, bracket}
 use Rattle.pg_program_text.specs.Grammar as g
 use Rattle.pg_program_text.specs.Grammar.{IsExpr, IsNote, IsTest, IsAct, IsAssignment, AreAssignments, IsBracket, equality}
 use Rattle.pg_program_text.proofs.ExprSound.{expr_found}

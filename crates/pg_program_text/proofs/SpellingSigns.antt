@@ -1,5 +1,5 @@
 -- The signs and keywords of threads at the bytes that they are spelled with.
-use Rattle.std.proofs.Common.{◌≡◌, ℕ, Bool, ◌==◌, ◌≤◌, Some, List, [], ◌∷◌, refl, lit≤}
+use Rattle.std.proofs.Common.{◌≡◌, ℕ, Bool, ◌==◌, Some, List, [], ◌∷◌, refl, lit≤}
 use Rattle.std.specs.Prelude.{codes, slice_index}
 use Rattle.pg_lex.specs.declared.token.Sign.TheVariants as s
 use Rattle.pg_lex.specs.declared.token.TokenKind.TheVariants as kind

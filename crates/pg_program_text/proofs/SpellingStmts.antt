@@ -1,5 +1,5 @@
 -- What notes, tests, acts and brackets are spelled with stands for them.
-use Rattle.std.proofs.Common.{◌≡◌, ℕ, zero, suc, ◌+◌, ◌≤◌, Bool, true, false, List, [], ◌∷◌, ◌++◌, length, refl, sym, ap, subst, arith}
+use Rattle.std.proofs.Common.{◌≡◌, ℕ, zero, suc, ◌≤◌, Bool, true, false, List, [], ◌∷◌, ◌++◌, length, refl, sym, ap, subst, arith}
 use Rattle.std.specs.Prelude.{codes}
 use Rattle.std.specs.List.{All}
 use Rattle.std.proofs.lemmas.List.Elements.{All-head, All-tail}
@@ -15,7 +15,7 @@ use Rattle.pg_program.specs.declared.syntax.Act.TheOpen.{Act-F, Assign, Store, L
 use Rattle.pg_program.specs.declared.syntax.Act.TheVariants as act
 use Rattle.pg_program.specs.Graph.{is_test_in}
 use Rattle.pg_assertion.specs.declared.atom.ViewAtom.{ViewAtom}
-use Rattle.pg_assertion.specs.Formula.{Plain, nodes, with_atoms}
+use Rattle.pg_assertion.specs.Formula.{Plain, with_atoms}
 use Rattle.pg_assertion_text.specs.declared.parse.TheConstants.{MAX_NODES, MAX_OPEN}
 use Rattle.pg_assertion_text.specs.Words.{Stands, sign}
 use Rattle.pg_assertion_text.specs.Input.{is_sign}

@@ -1,7 +1,7 @@
 -- Statements with their blocks, and bodies of threads, that are in the grammar are read.
-use Rattle.std.proofs.Common.{◌≡◌, ◌≢◌, ℕ, zero, suc, ◌+◌, ◌-◌, ◌<◌, ◌≤◌, Bool, true, false, Ok, Err, Some, None, List, [], ◌∷◌, ◌++◌, length, refl, ap, sym, ◌∙◌, subst, arith, append_assoc, length-append}
+use Rattle.std.proofs.Common.{◌≡◌, ◌≢◌, ℕ, zero, suc, ◌+◌, ◌-◌, ◌<◌, ◌≤◌, true, false, Ok, Err, Some, None, List, [], ◌∷◌, ◌++◌, length, refl, ap, sym, ◌∙◌, arith, append_assoc, length-append}
 use Rattle.std.proofs.lemmas.List.{append-nil}
-use Rattle.std.specs.Prelude.{Option, if◌then◌else◌, Result, is_ok, IfOk}
+use Rattle.std.specs.Prelude.{Option, Result, is_ok, IfOk}
 use Rattle.std.specs.Result.{result_unwrap_or}
 use Rattle.pg_lex.specs.declared.token.Sign.{Sign}
 use Rattle.pg_lex.specs.declared.token.Sign.TheVariants as s
@@ -19,7 +19,7 @@ use Rattle.pg_program.specs.declared.syntax.Cond.{Cond}
 use Rattle.pg_assertion.specs.declared.atom.RawAtom.{RawAtom}
 use Rattle.pg_assertion.specs.Formula.{Plain}
 use Rattle.pg_assertion_text.specs.Words.{Stands, sign, word}
-use Rattle.pg_assertion_text.specs.Input.{Input, Outcome, Parser, and_then, ◌>>◌, ◌>>=◌, pure, peek, next, expect, is_sign, named}
+use Rattle.pg_assertion_text.specs.Input.{Input, Parser, and_then, pure, peek, is_sign, named}
 use Rattle.pg_assertion_text.specs.Parsing.{placed}
 use Rattle.pg_assertion_text.specs.Steps.{bind_value, peek_reads, stands_token, expect_reads, named_reads, sign_is_same}
 use Rattle.pg_program_text.specs.declared.keyword.Keyword.{Keyword}
@@ -27,8 +27,8 @@ use Rattle.pg_program_text.specs.declared.keyword.Keyword.TheVariants as k
 use Rattle.pg_program_text.specs.declared.thread.ThreadText.{ThreadText}
 use Rattle.pg_program_text.specs.declared.thread.TheConstants.{MAX_POINTS, MAX_BLOCKS}
 use Rattle.pg_program_text.specs.Keywords.{spelling, keyword}
-use Rattle.pg_program_text.specs.Stmt.{note, test, an_act, bracket}
-use Rattle.pg_program_text.specs.Thread.{Lines, Noted, no_lines, bare, with_line, simple, ends_by, ends, line_or_end, lines_on, lines, block, else_by, else_part, joined, branch, repeat, statement_by, statement_in, statement, begins, begins_by, line_or_last, body_on, body, thread_at}
+use Rattle.pg_program_text.specs.Stmt.{test, an_act, bracket}
+use Rattle.pg_program_text.specs.Thread.{Lines, Noted, no_lines, bare, with_line, simple, ends_by, ends, line_or_end, lines_on, lines, block, else_by, else_part, joined, branch, repeat, statement_by, statement_in, statement, begins, begins_by, line_or_last, body_on, thread_at}
 use Rattle.pg_program_text.specs.Text.{lines as lines_of, ReadsAt, Answers, HasOneReading}
 use Rattle.pg_program_text.specs.Grammar as g
 use Rattle.pg_program_text.specs.Grammar.{Part, IsPart, a_simple, an_if, a_while, an_else, no_else, in_braces, no_lines as none, a_line, IsAct, an_assign, a_store, a_load, a_cas, an_mfence, an_sfence, a_flush, a_flushopt, IsBracket, IsTest, IsNote, IsBody, last_note, body_line, BeginsNone, IsThreadText}

@@ -1,7 +1,7 @@
 -- Statements with their blocks, and bodies of threads, that are read are in the grammar.
-use Rattle.std.proofs.Common.{◌≡◌, ◌⊎◌, inl, inr, ℕ, zero, suc, ◌+◌, ◌≤◌, Bool, true, false, Ok, Err, Some, None, List, [], ◌∷◌, ◌++◌, length, refl, ap, sym, ◌∙◌, subst, arith, append_assoc, length-append}
+use Rattle.std.proofs.Common.{◌≡◌, ℕ, zero, suc, ◌+◌, Bool, true, false, Ok, Err, Some, None, List, [], ◌∷◌, ◌++◌, length, refl, ap, sym, ◌∙◌, subst, arith, append_assoc, length-append}
 use Rattle.std.proofs.lemmas.List.{append-nil}
-use Rattle.std.specs.Prelude.{Option, if◌then◌else◌, Result}
+use Rattle.std.specs.Prelude.{Option, Result}
 use Rattle.std.specs.Result.{result_unwrap_or}
 use Rattle.pg_lex.specs.declared.token.Sign.TheVariants as s
 use Rattle.pg_lex.specs.declared.fault.TextFault.{TextFault}
@@ -9,24 +9,21 @@ use Rattle.pg_lex.specs.Lex.{Cursor, Lexeme, token, after}
 use Rattle.pg_program.specs.NameTable.{NameTable}
 use Rattle.pg_program.specs.declared.syntax.Stmt.{Stmt, roll-Stmt}
 use Rattle.pg_program.specs.declared.syntax.Act.TheVariants as act
-use Rattle.pg_program.specs.declared.syntax.Act.{Act}
-use Rattle.pg_program.specs.declared.syntax.AuxAssign.{AuxAssign}
-use Rattle.pg_program.specs.declared.syntax.Cond.{Cond}
 use Rattle.pg_assertion.specs.declared.atom.RawAtom.{RawAtom}
 use Rattle.pg_assertion.specs.Formula.{Plain}
 use Rattle.pg_assertion_text.specs.Words.{Stands, sign, word}
-use Rattle.pg_assertion_text.specs.Input.{Input, Outcome, Parser, and_then, ◌>>◌, ◌>>=◌, pure, peek, next, expect, is_sign}
+use Rattle.pg_assertion_text.specs.Input.{Input, Outcome, Parser, pure, peek, next, expect, is_sign}
 use Rattle.pg_assertion_text.specs.Parsing.{placed}
-use Rattle.pg_assertion_text.specs.Steps.{ok_same, bind_then, next_found, peek_found, is_sign_found, Takes, expect_found}
+use Rattle.pg_assertion_text.specs.Steps.{ok_same, bind_then, next_found, peek_found, is_sign_found, expect_found}
 use Rattle.pg_program_text.specs.declared.keyword.Keyword.{Keyword}
 use Rattle.pg_program_text.specs.declared.keyword.Keyword.TheVariants as k
 use Rattle.pg_program_text.specs.declared.thread.TheConstants.{MAX_POINTS, MAX_BLOCKS}
 use Rattle.pg_program_text.specs.Keywords.{spelling, keyword}
 use Rattle.pg_program_text.specs.Stmt.{note, test, an_act, bracket}
-use Rattle.pg_program_text.specs.Thread.{Lines, Noted, no_lines, bare, with_line, simple, ends_by, ends, line_or_end, lines_on, lines, block_fault, refuse_block, block, else_by, else_part, joined, branch, repeat, statement_by, statement_in, statement, begins, line_or_last, body_on, body, thread_at}
+use Rattle.pg_program_text.specs.Thread.{Lines, Noted, no_lines, bare, with_line, simple, ends_by, ends, line_or_end, lines_on, lines, refuse_block, block, else_by, else_part, joined, branch, repeat, statement_by, statement_in, statement, begins, line_or_last, body_on, body, thread_at}
 use Rattle.pg_program_text.specs.Grammar as g
 use Rattle.pg_program_text.specs.Grammar.{Part, IsPart, IsNote, IsBody, BeginsNone, IsThreadText}
-use Rattle.pg_program_text.proofs.PartsSound.{Passed, note_found, test_found, act_found, bracket_found, keyword_found}
+use Rattle.pg_program_text.proofs.PartsSound.{note_found, test_found, act_found, bracket_found, keyword_found}
 
 -- lines that were read: what stands there, and as many points as notes
 pub record Found (names : NameTable) (part : Part) (m : ℕ) (i : Input) (l : Lines) (j : Input) : Type 0 where

@@ -3,7 +3,7 @@
 --   expr = term ( ( "+" | "-" ) term )*     term = factor ( "*" factor )*     factor = NUMBER | SCALAR | "(" expr ")"
 --
 -- All three signs group to the left.
-use Rattle.std.specs.Prelude.{◌≡◌, ℕ, zero, suc, ◌+◌, Bool, true, false, if◌then◌else◌, Option, Some, None, Result, Ok, Err}
+use Rattle.std.specs.Prelude.{ℕ, zero, suc, ◌+◌, Bool, true, false, if◌then◌else◌, Option, Some, None}
 use Rattle.pg_lex.specs.declared.token.Sign.{Sign}
 use Rattle.pg_lex.specs.declared.token.Sign.TheVariants as s
 use Rattle.pg_lex.specs.declared.token.TokenKind.{TokenKind}
@@ -14,7 +14,7 @@ use Rattle.pg_program.specs.NameTable.{NameTable}
 use Rattle.pg_program.specs.declared.syntax.Expr.{Expr}
 use Rattle.pg_program.specs.declared.syntax.Expr.TheVariants as e
 use Rattle.pg_assertion_text.specs.Words.{Stands, sign, number, scalar}
-use Rattle.pg_assertion_text.specs.Input.{Input, Outcome, Parser, ◌>>=◌, ◌>>◌, pure, refuse, allowed, next, node, goes_on, expect, is_sign, named, scalar_in}
+use Rattle.pg_assertion_text.specs.Input.{Parser, ◌>>=◌, ◌>>◌, pure, refuse, allowed, next, node, goes_on, expect, is_sign, named, scalar_in}
 
 -- ---- the grammar
 

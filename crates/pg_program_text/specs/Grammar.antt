@@ -24,7 +24,6 @@ use Rattle.pg_assertion.specs.Formula.{Plain}
 use Rattle.pg_assertion_text.specs.Words.{Stands, Stand, sign, word, location, scalar}
 use Rattle.pg_assertion_text.specs.Atoms.{IsRaw}
 use Rattle.pg_assertion_text.specs.Parsing.{IsFormula}
-use Rattle.pg_program_text.specs.declared.keyword.Keyword.{Keyword}
 use Rattle.pg_program_text.specs.declared.keyword.Keyword.TheVariants as k
 use Rattle.pg_program_text.specs.declared.stmt.TheConstants.{MAX_EXPR_NODES, MAX_EXPR_OPEN, MAX_ASSIGNMENTS}
 use Rattle.pg_program_text.specs.declared.thread.TheConstants.{MAX_POINTS, MAX_BLOCKS}

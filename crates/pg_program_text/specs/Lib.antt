@@ -7,3 +7,4 @@ pub mod Text
 pub mod Spelling
 pub mod SpellingLaws
 pub mod ReadAgain
+pub mod BodyLaws

@@ -1,8 +1,6 @@
 -- How the parts of a statement are read, but for the blocks of branches and loops.
-use Rattle.std.specs.Prelude.{ℕ, zero, suc, ◌+◌, ◌==◌, Bool, true, false, if◌then◌else◌, List, [], ◌∷◌, ◌++◌, Option, Some, None, Result, Ok, Err, slice_get}
-use Rattle.pg_lex.specs.declared.token.Sign.{Sign}
+use Rattle.std.specs.Prelude.{ℕ, zero, suc, Bool, true, false, if◌then◌else◌, List, [], ◌∷◌, ◌++◌, Option, Some, Result, Ok, Err}
 use Rattle.pg_lex.specs.declared.token.Sign.TheVariants as s
-use Rattle.pg_lex.specs.declared.token.TokenKind.{TokenKind}
 use Rattle.pg_lex.specs.declared.fault.TextFault.{TextFault}
 use Rattle.pg_lex.specs.declared.fault.TextFault.TheVariants.{At}
 use Rattle.pg_lex.specs.declared.fault.TextKind.{TextKind}
@@ -19,7 +17,7 @@ use Rattle.pg_program.specs.declared.syntax.Act.TheVariants as act
 use Rattle.pg_program.specs.declared.syntax.AuxAssign.{AuxAssign}
 use Rattle.pg_assertion.specs.declared.atom.RawAtom.{RawAtom}
 use Rattle.pg_assertion.specs.Formula.{Plain}
-use Rattle.pg_assertion_text.specs.Input.{Input, Outcome, Parser, and_then, ◌>>=◌, ◌>>◌, pure, refuse, allowed, peek, next, node, expect, is_sign, named, location}
+use Rattle.pg_assertion_text.specs.Input.{Input, Outcome, Parser, ◌>>=◌, ◌>>◌, pure, refuse, allowed, peek, next, node, expect, is_sign, named, location}
 use Rattle.pg_assertion_text.specs.Atoms.{raw_atom}
 use Rattle.pg_assertion_text.specs.Parsing.{formula_at}
 use Rattle.pg_program_text.specs.declared.stmt.TheConstants.{MAX_EXPR_NODES, MAX_EXPR_OPEN, MAX_ASSIGNMENTS}

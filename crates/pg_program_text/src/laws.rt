@@ -2,12 +2,19 @@
 //! the law.
 
 ghost use Rattle.pg_program_text.specs.Text.{HasOneReading};
+ghost use Rattle.pg_program_text.specs.BodyLaws.{BodiesAreThreads};
 ghost use Rattle.pg_program_text.specs.SpellingLaws.{ExpressionsStand, ThreadsStand};
 ghost use Rattle.pg_program_text.specs.ReadAgain.{ThreadsAreReadAgain};
 
 /// From a place of a text there is at most one body of a thread to read, and it ends at one place.
 pub fn a_body_has_one_reading()
     ensures { HasOneReading }
+{}
+
+/// The statements of a body are a thread over the declared names, as `Program::build` asks for, and each of its points has a
+/// note.
+pub fn bodies_are_threads()
+    ensures { BodiesAreThreads }
 {}
 
 /// The spelling of an expression is an expression of the grammar, and stands for that expression: where the declared names

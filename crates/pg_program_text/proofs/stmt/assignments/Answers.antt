@@ -1,5 +1,5 @@
 -- Each goal says what the bracket leads to, by what its turn met.
-use Rattle.std.proofs.Common.{rules, ◌≢◌, ◌∙◌, ◌+◌, ◌-◌, ap, sym, Ok, Err}
+use Rattle.std.proofs.Common.{rules, ◌≢◌, ◌∙◌, ◌+◌, ◌-◌, ap, sym, Ok}
 use Rattle.pg_lex.specs.declared.fault.TextFault.TheVariants.{NoMemory}
 use Rattle.pg_program_text.specs.declared.stmt.TheConstants.{MAX_ASSIGNMENTS}
 use Rattle.pg_program_text.specs.Stmt as spec

@@ -1,5 +1,5 @@
 -- Each goal says what the body leads to, by what its turn met.
-use Rattle.std.proofs.Common.{rules, ◌≡◌, ◌≢◌, ◌∙◌, ◌+◌, ◌-◌, ◌++◌, ◌∷◌, [], ap, sym, Ok, Err, map, List}
+use Rattle.std.proofs.Common.{rules, ◌≢◌, ◌∙◌, ◌+◌, ◌-◌, ◌∷◌, [], ap, sym, Ok, Err, map, List}
 use Rattle.std.proofs.lemmas.List.{map-append}
 use Rattle.pg_lex.specs.Lex.{lexeme}
 use Rattle.pg_lex.specs.declared.fault.TextFault.TheVariants.{NoMemory}
