@@ -1,21 +1,20 @@
 -- A thread of plain statements is a thread over names.
-use Rattle.std.proofs.Common.{◌≡◌, ℕ, suc, true, ◌+◌, ◌<◌, List, [], ◌∷◌, ◌++◌, length, map, refl, sym, ap, ap₂, subst, ◌∙◌, arith}
+use Rattle.std.proofs.Common.{◌≡◌, ℕ, true, ◌+◌, ◌<◌, List, [], ◌∷◌, ◌++◌, length, map, refl, sym, ap, ap₂, subst, ◌∙◌, arith}
 use Rattle.std.specs.List.{All}
-use Rattle.std.proofs.lemmas.List.Elements.{All-nil, All-cons, All-head, All-tail}
+use Rattle.std.proofs.lemmas.List.Elements.{All-nil, All-cons, All-head, All-tail, All-append}
 use Rattle.pg_program.specs.declared.syntax.AuxAssign.{AuxAssign}
 use Rattle.pg_program.specs.declared.syntax.Expr.{Expr, Value, out-Expr, fold_out-Expr}
 use Rattle.pg_program.specs.declared.syntax.Expr.TheOpen as opened
 use Rattle.pg_program.specs.declared.syntax.Expr.TheFolds.{map-Expr}
-use Rattle.pg_program.specs.declared.syntax.Stmt.{Stmt}
+use Rattle.pg_program.specs.declared.syntax.Stmt.{Stmt, out-Stmt}
 use Rattle.pg_program.specs.NameTable.{NameTable}
-use Rattle.pg_program.specs.Block.{done, node, block, first_of, second_of}
+use Rattle.pg_program.specs.Block.{Block, done, node, block, first_of}
 use Rattle.pg_program.specs.Graph.{size, statements}
 use Rattle.pg_program.specs.Expr.{reads, reads_step}
 use Rattle.pg_program.specs.Fault.{outside, bracket_scalars, scalars_of, targets, is_auxiliary, locations_of}
 use Rattle.pg_program.specs.Program.{IsStmt, IsThread}
 use Rattle.pg_program.proofs.BlockLemmas.{block-nests}
-use Rattle.pg_machine.specs.Step.{bracket_of}
-use Rattle.pg_machine.specs.Plain.{IsPlain, ArePlain}
+use Rattle.pg_machine.specs.Plain.{IsPlain, ArePlain, IsLoop}
 
 value-out : (v : ℕ) → out-Expr (Value v) ≡ opened.Value v
 unfolding out-Expr denote.Hole.Carrier.out
@@ -39,34 +38,51 @@ plain-statements m n [] h = refl
 plain-statements m n (s ∷ ss) h =
     ap statements (plain-block m n s ss (All-head (IsPlain m n) s ss h)) ∙ ap (λ (l : List Stmt). s ∷ l) (plain-statements m n ss (All-tail (IsPlain m n) s ss h))
 
-plain-stmt : (names : NameTable) (s : Stmt) → IsPlain (length names.locations) (length names.scalars) s → IsStmt names s
-plain-stmt names s h =
-    let scalars : scalars_of s ≡ outside s ++ [] = ap (λ (a : List AuxAssign). outside s ++ bracket_scalars a) h.bare in
-    let none : targets s ≡ [] = ap (map (λ (a : AuxAssign). a.target)) h.bare in
+bare-stmt : (names : NameTable) (s : Stmt) → (out-Stmt s).aux ≡ [] → All (λ r. r < length names.scalars) (outside s) → All (λ x. x < length names.locations) (locations_of s) → IsStmt names s
+bare-stmt names s bare declared located =
+    let scalars : scalars_of s ≡ outside s ++ [] = ap (λ (a : List AuxAssign). outside s ++ bracket_scalars a) bare in
+    let none : targets s ≡ [] = ap (map (λ (a : AuxAssign). a.target)) bare in
     record {
-      scalars = subst (All (λ (r : ℕ). r < length names.scalars)) (sym scalars) (behind (length names.scalars) (outside s) h.scalars);
-      locations = h.locations;
+      scalars = subst (All (λ (r : ℕ). r < length names.scalars)) (sym scalars) (All-append (λ (r : ℕ). r < length names.scalars) (outside s) [] declared (All-nil (λ (r : ℕ). r < length names.scalars)));
+      locations = located;
       targets = subst (All (λ r. is_auxiliary names r ≡ true)) (sym none) (All-nil (λ r. is_auxiliary names r ≡ true));
-      bare = λ t. h.bare;
+      bare = λ t. bare;
     }
-  where
-    behind : (k : ℕ) (xs : List ℕ) → All (λ r. r < k) xs → All (λ r. r < k) (xs ++ [])
-    behind k [] h = h
-    behind k (x ∷ xs) h = All-cons (λ (r : ℕ). r < k) x (xs ++ []) (All-head (λ (r : ℕ). r < k) x xs h) (behind k xs (All-tail (λ (r : ℕ). r < k) x xs h))
+
+plain-stmts : (names : NameTable) (ss : List Stmt) → All (IsPlain (length names.locations) (length names.scalars)) ss → All (IsStmt names) ss
+plain-stmts names [] h = All-nil (IsStmt names)
+plain-stmts names (s ∷ ss) h =
+    let P = IsPlain (length names.locations) (length names.scalars) in
+    let first = All-head P s ss h in
+    All-cons (IsStmt names) s ss (bare-stmt names s first.bare first.scalars first.locations) (plain-stmts names ss (All-tail P s ss h))
+
+-- over two locations and two scalars
+over-two : (P : ℕ → ℕ → Type 0) (names : NameTable) → length names.locations ≡ 2 → length names.scalars ≡ 2 → P 2 2 → P (length names.locations) (length names.scalars)
+over-two P names two too h = subst (λ (n : ℕ). P (length names.locations) n) (sym too) (subst (λ (m : ℕ). P m 2) (sym two) h)
 
 pub plain-thread : (names : NameTable) (ss : List Stmt) → length names.locations ≡ 2 → length names.scalars ≡ 2 → ArePlain 2 2 ss → IsThread names ss
 plain-thread names ss two too h =
-    let a = subst (λ (m : ℕ). All (IsPlain m 2) ss) (sym two) h.each in
-    let each = subst (λ (n : ℕ). All (IsPlain (length names.locations) n) ss) (sym too) a in
     let few = h.few in
     let size = plain-size 2 2 ss h.each in
     record {
       few = omega (arith, few, size);
-      stmts = subst (All (IsStmt names)) (sym (plain-statements 2 2 ss h.each)) (stmts names ss each);
+      stmts = subst (All (IsStmt names)) (sym (plain-statements 2 2 ss h.each)) (plain-stmts names ss (over-two (λ m n. All (IsPlain m n) ss) names two too h.each));
     }
-  where
-    stmts : (names : NameTable) (ss : List Stmt) → All (IsPlain (length names.locations) (length names.scalars)) ss → All (IsStmt names) ss
-    stmts names [] h = All-nil (IsStmt names)
-    stmts names (s ∷ ss) h =
-        let P = IsPlain (length names.locations) (length names.scalars) in
-        All-cons (IsStmt names) s ss (plain-stmt names s (All-head P s ss h)) (stmts names ss (All-tail P s ss h))
+
+-- a thread of one loop
+pub loop-thread : (names : NameTable) (s : Stmt) → length names.locations ≡ 2 → length names.scalars ≡ 2 → IsLoop 2 2 s → IsThread names (s ∷ [])
+loop-thread names s two too h =
+    let body = first_of s in
+    let nests : block (s ∷ []) ≡ node s (block body) done done = block-nests s [] ∙ ap (λ (b : List Stmt). node s (block body) (block b) done) h.second in
+    let few = h.few in
+    let inner = plain-size 2 2 body h.body in
+    let here : size (block (s ∷ [])) ≡ 1 + (size (block body) + 0) = ap size nests in
+    let declared = over-two (λ m n. All (λ (r : ℕ). r < n) (outside s)) names two too h.scalars in
+    let located = over-two (λ m n. All (λ (x : ℕ). x < m) (locations_of s)) names two too h.locations in
+    let stmts : All (IsStmt names) (statements (block body)) = subst (All (IsStmt names)) (sym (plain-statements 2 2 body h.body)) (plain-stmts names body (over-two (λ m n. All (IsPlain m n) body) names two too h.body)) in
+    record {
+      few = omega (arith, few, inner, here);
+      stmts = subst (λ (b : Block). All (IsStmt names) (statements b)) (sym nests)
+          (All-cons (IsStmt names) s (statements (block body) ++ []) (bare-stmt names s h.bare declared located)
+          (All-append (IsStmt names) (statements (block body)) [] stmts (All-nil (IsStmt names))));
+    }

@@ -15,3 +15,12 @@ pub record IsPlain (m n : ℕ) (s : Stmt) : Type 0 where
 pub record ArePlain (m n : ℕ) (ss : List Stmt) : Type 0 where
   pub few : length ss < 32
   pub each : All (IsPlain m n) ss
+
+-- a loop over plain statements
+pub record IsLoop (m n : ℕ) (s : Stmt) : Type 0 where
+  pub bare : (out-Stmt s).aux ≡ []
+  pub few : length (first_of s) < 31
+  pub body : All (IsPlain m n) (first_of s)
+  pub second : second_of s ≡ []
+  pub scalars : All (λ r. r < n) (outside s)
+  pub locations : All (λ x. x < m) (locations_of s)

@@ -2,12 +2,12 @@
 
 ghost use Rattle.std.specs.Prelude.{◌≡◌, ◌<◌, length, IfOk};
 ghost use Rattle.pg_machine.specs.State.{IsWellFormed};
-ghost use Rattle.pg_machine.specs.Plain.{IsPlain, ArePlain};
+ghost use Rattle.pg_machine.specs.Plain.{IsPlain, ArePlain, IsLoop};
 
 use crate::event::Event;
-use crate::fault::StepFault;
+use crate::fault::{MAX_MESSAGES, StepFault};
 use crate::state::State;
-use pg_program::{Act, Expr, NameKind, Names, Program, Stmt};
+use pg_program::{Act, Cond, Expr, NameKind, Names, Program, Stmt};
 use sqlite_items::Items;
 use std::alloc::Global;
 use std::test::Fail;
@@ -167,5 +167,73 @@ fn takes_steps(rt: HostRuntime) -> Result<(), Fail> {
     assert!(rt; follows(&mut state, &p, &ALONE));
     assert_eq!(rt; state.scalars(), [0, 0].as_slice());
     assert_eq!(rt; state.messages(), 1);
+    Ok(())
+}
+
+/// `while 0 = 0 { x := 1; }`
+fn forever(alloc: Global) -> Result<Stmt, Fail>
+    ensures { IfOk result (λ s. IsLoop 2 2 s) }
+{
+    let mut body = Items::new(alloc);
+    body.push(store_one(alloc, 0))?;
+    Ok(Stmt {
+        act: Act::While {
+            test: Cond {
+                left: Expr::Value(0),
+                equal: true,
+                right: Expr::Value(0),
+            },
+            body,
+        },
+        aux: Items::new(alloc),
+    })
+}
+
+/// That loop, and a second thread.
+fn looping(alloc: Global) -> Result<Program, Fail> {
+    let thread = vec![in alloc; forever(alloc)?]?;
+    let threads = vec![in alloc; thread, second(alloc)?]?;
+    Ok(Program::build(alloc, names(alloc)?, threads)?)
+}
+
+/// The fault of the next step of thread 1, if it has one.
+fn next(state: &mut State, p: &Program) -> Option<StepFault>
+    requires { IsWellFormed p.now state.old.state }
+    ensures { IsWellFormed p.now state.new.state }
+{
+    let event = Event {
+        thread: 1,
+        choice: None,
+    };
+    match state.step(p, event) {
+        Ok(()) => None,
+        Err(fault) => Some(fault),
+    }
+}
+
+/// Goes through the loop so many times, and tells whether no step had a fault.
+fn turns(state: &mut State, p: &Program, n: u32) -> bool
+    requires { IsWellFormed p.now state.old.state }
+    ensures { IsWellFormed p.now state.new.state }
+{
+    let mut all = true;
+    for _i in 0..n {
+        let test = next(state, p);
+        let store = next(state, p);
+        all = all && test.is_none() && store.is_none();
+    }
+    all
+}
+
+#[test]
+fn messages_have_a_limit(rt: HostRuntime) -> Result<(), Fail> {
+    let alloc = rt.alloc();
+    let p = looping(alloc)?;
+    let mut state = State::fresh(alloc, &p)?;
+    assert!(rt; turns(&mut state, &p, MAX_MESSAGES));
+    assert_eq!(rt; state.messages(), MAX_MESSAGES);
+    assert_eq!(rt; next(&mut state, &p), None);
+    assert_eq!(rt; next(&mut state, &p), Some(StepFault::MessagesFull));
+    assert_eq!(rt; state.messages(), MAX_MESSAGES);
     Ok(())
 }
