@@ -1,8 +1,11 @@
 //! The machine: states of threads that share persistent memory, and the steps between them.
 //!
-//! What this crate promises the layers above: the definitions of a state, of a well-formed one and of a step,
-//! in `specs/`, after Px86view, and the law that an event leads a state to one next state at most. `State` is such a
-//! state, and its `step` takes the step that an event leads to, or tells the fault that it has.
+//! What this crate promises the layers above: the definitions of a state, of a well-formed one, of a step and of a fault,
+//! in `specs/`, after Px86view. `State` is such a state: `fresh` gives the first one of a program, and `step` takes the step
+//! that an event leads to, or tells exactly the fault that it has and leaves the state as it was. With spare messages, which
+//! `reserve` provides, it does not run out of memory. The laws in `laws`: an event leads a state to one next state at most and
+//! has one fault at most, the fresh state is well formed, a step keeps a state so, and a cas is a store and a fence, or a load
+//! between fences.
 #![tactic(auto)]
 
 mod access;
