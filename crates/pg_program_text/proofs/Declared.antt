@@ -30,29 +30,24 @@ use Rattle.pg_program_text.specs.Thread.{bare}
 use Rattle.pg_program_text.specs.Grammar as g
 use Rattle.pg_program_text.specs.Grammar.{Part, IsPart, IsBody, IsAct, IsExpr, IsAssignment, AreAssignments, IsBracket, IsTest, IsThreadText}
 use Rattle.pg_program_text.specs.BodyLaws.{BodiesAreThreads}
-use Rattle.pg_program_text.proofs.Names.{place_within}
+use Rattle.pg_program_text.proofs.Names.{place_within, found_scalar}
 
 -- ---- names
 
-scalar_of : (l s : Option ℕ) (r : ℕ) → found l s ≡ Some (place.Scalar r) → s ≡ Some r
-scalar_of (Some x) s r h = cc
-scalar_of None None r h = cc
-scalar_of None (Some q) r h = cc
-
-location_of : (l s : Option ℕ) (x : ℕ) → found l s ≡ Some (place.Location x) → l ≡ Some x
-location_of (Some y) s x h = cc
-location_of None None x h = cc
-location_of None (Some q) x h = cc
+found_location : (l s : Option ℕ) (x : ℕ) → found l s ≡ Some (place.Location x) → l ≡ Some x
+found_location (Some y) s x h = cc
+found_location None None x h = cc
+found_location None (Some q) x h = cc
 
 scalar_within : (names : NameTable) (r : ℕ) (from to : Cursor) → Stands names (scalar r) from to → r < length names.scalars
 scalar_within names r from to st =
     let w = st.lexeme.text in
-    place_within w names.scalars r (scalar_of (place_in w names.locations) (place_in w names.scalars) r st.matches.2)
+    place_within w names.scalars r (found_scalar (place_in w names.locations) (place_in w names.scalars) r st.matches.2)
 
 location_within : (names : NameTable) (x : ℕ) (from to : Cursor) → Stands names (location x) from to → x < length names.locations
 location_within names x from to st =
     let w = st.lexeme.text in
-    place_within w names.locations x (location_of (place_in w names.locations) (place_in w names.scalars) x st.matches.2)
+    place_within w names.locations x (found_location (place_in w names.locations) (place_in w names.scalars) x st.matches.2)
 
 -- ---- expressions
 

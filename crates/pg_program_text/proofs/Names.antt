@@ -17,7 +17,7 @@ place_within w (e ∷ es) i h = by (bytes_eq w e.0) (place_in w es) (place_withi
     by false None rest i h = cc
     by false (Some j) rest i h = let z : j + 1 ≡ i = cc in let q = rest j refl in omega arith
 
-found_scalar : (l s : Option ℕ) (r : ℕ) → found l s ≡ Some (place.Scalar r) → s ≡ Some r
+pub found_scalar : (l s : Option ℕ) (r : ℕ) → found l s ≡ Some (place.Scalar r) → s ≡ Some r
 found_scalar (Some x) s r h = cc
 found_scalar None None r h = cc
 found_scalar None (Some q) r h = cc
