@@ -1,0 +1,5 @@
+pub mod Atom
+pub mod Formula
+pub mod Crash
+pub mod Execution
+pub mod Fault
