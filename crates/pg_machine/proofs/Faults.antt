@@ -57,7 +57,7 @@ choice-unread n x p b (BelowCoherence q c) h r = let low = h.3 in let from = (is
 choice-unread n x p b (Hidden q later) h r = hidden-not_clear n.memory.messages x p b later h.3.hiding (is_reached n.memory.messages x (coh_of n.views x) b p r).clear
 choice-unread n x p b f h r = absurd h
 
-least_same : (ms : List (ℕ × ℕ)) (x p n q r : ℕ) → IsLeastHiding ms x p n q → IsLeastHiding ms x p n r → q ≡ r
+pub least_same : (ms : List (ℕ × ℕ)) (x p n q r : ℕ) → IsLeastHiding ms x p n q → IsLeastHiding ms x p n r → q ≡ r
 least_same ms x p n q r h k = elim (cases_order q r) [
   | inl e ↦ e
   | inr (inl less) ↦ absurd (true≢false (sym h.hiding ∙ k.least q less))

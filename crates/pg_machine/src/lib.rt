@@ -23,4 +23,5 @@ mod views;
 
 pub use event::Event;
 pub use fault::{MAX_MESSAGES, StepFault};
+pub use memory::Memory;
 pub use state::State;

@@ -2,7 +2,7 @@
 
 ghost use Rattle.std.specs.Prelude.{◌≡◌, ℕ, ◌+◌, ◌-◌, ◌<◌, ◌≤◌, true, [], ◌∷◌, ◌++◌, length, slice_index, slice_index_or, MatchOption, All, IfOk, IfErr, OnOk, OnErr};
 ghost use Rattle.pg_program.specs.NameTable.{initial};
-ghost use Rattle.pg_machine.specs.Memory.{is_at, value_at, last_value, is_clear, message_appended};
+ghost use Rattle.pg_machine.specs.Memory.{is_at, value_at, last, last_value, is_clear, message_appended};
 ghost use Rattle.pg_machine.specs.Fault.{IsLeastHiding, IsFull};
 ghost use Rattle.pg_machine.specs.Held.{IsRefusal};
 ghost use Rattle.pg_machine.specs.declared.fault.TheConstants.{MAX_MESSAGES};
@@ -92,6 +92,13 @@ impl Memory {
         ensures { result ≡ value_at self.now.memory location position }
     {
         messages::value_at(&self.initial, &self.messages, location, position)
+    }
+
+    /// The greatest position of the location.
+    pub fn last(&self, location: u8) -> u32
+        ensures { result ≡ last self.now.memory.messages location }
+    {
+        messages::last(&self.messages, location)
     }
 
     /// The value at the greatest position of the location.

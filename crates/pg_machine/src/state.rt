@@ -3,7 +3,7 @@
 ghost use Rattle.std.specs.Prelude.{◌≡◌, ◌≢◌, ℕ, ◌+◌, ◌-◌, ◌<◌, ◌≤◌, length, replicate, slice_index, slice_index_or, Some, IfOk, IfErr, OnOk, OnErr};
 ghost use Rattle.pg_program.specs.Program.{IsProgram, stmt_at};
 ghost use Rattle.pg_machine.specs.declared.fault.TheConstants.{MAX_MESSAGES};
-ghost use Rattle.pg_machine.specs.State.{fresh, fresh_views, point_of, coh_of, vpa_of, vpc_of, IsWellFormed};
+ghost use Rattle.pg_machine.specs.State.{fresh, fresh_views, point_of, coh_of, vpa_of, vpc_of, maxcoh, IsWellFormed};
 ghost use Rattle.pg_machine.specs.Step.{views_of, IsStep};
 ghost use Rattle.pg_machine.specs.Fault.{IsFault, ActFault};
 ghost use Rattle.pg_machine.specs.Held.{IsRefusal, IsTaken};
@@ -82,6 +82,14 @@ impl State {
         self.scalars.as_slice()
     }
 
+    /// The memory: the initial values and the messages.
+    pub fn memory(&self) -> &Memory
+        ensures memory { result.now.memory ≡ self.now.state.memory }
+        ensures spare { result.now.spare ≡ self.now.spare }
+    {
+        &self.memory
+    }
+
     /// The number of messages.
     pub fn messages(&self) -> u32
         ensures count { result ≡ length self.now.state.memory.messages }
@@ -113,6 +121,14 @@ impl State {
         ensures { result ≡ coh_of (views_of self.now.state thread) location }
     {
         self.seen(thread).coh(location)
+    }
+
+    /// A thread's greatest coherence view.
+    pub fn maxcoh(&self, thread: u8) -> u32
+        requires { (1 ≤ thread) × (thread ≤ length self.now.state.views) }
+        ensures { result ≡ maxcoh (views_of self.now.state thread) }
+    {
+        self.seen(thread).maxcoh()
     }
 
     /// A thread's read view.

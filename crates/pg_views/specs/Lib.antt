@@ -3,3 +3,4 @@ pub mod Formula
 pub mod Crash
 pub mod Execution
 pub mod Fault
+pub mod Parts
