@@ -1,4 +1,4 @@
 pub mod Below
-pub mod Parts
+pub mod Found
 pub mod Loads
 pub mod CrashFaults

@@ -42,6 +42,7 @@ pub fn crash(alloc: Global, s: &State, p: &Program, at: &[u32]) -> Result<Nvm, C
     requires formed { IsWellFormed p.now s.now.state }
     requires few { length at.now < 2 ^ 32 }
     ensures ok { IfOk result (λ n. IsCrashChoice s.now.state at.now × (n ≡ crash_memory s.now.state at.now)) }
+    ensures size { IfOk result (λ n. length n ≡ length s.now.state.memory.initial) }
     ensures err { IfErr result (λ f. IsCrashFault s.now.state at.now f ⊎ ((f ≡ CrashFault.NoMemory) × IsCrashChoice s.now.state at.now)) }
     ensures exact { (f : CrashFault) → IsCrashFault s.now.state at.now f → result ≡ Err f }
     ensures complete { IsCrashChoice s.now.state at.now → IfErr result (λ f. f ≡ CrashFault.NoMemory) }

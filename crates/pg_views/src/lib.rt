@@ -5,6 +5,8 @@ mod atom;
 mod crashes;
 mod fault;
 mod formula;
+#[cfg(test)]
+mod tests;
 mod window;
 
 pub use atom::holds_atom;

@@ -1,6 +1,6 @@
 use Rattle.std.proofs.Common.{◌≡◌, ◌+◌, max, map, drop, ap, ◌∙◌, arith}
 use Rattle.pg_machine.specs.State.{greatest, vpc_of}
-use Rattle.pg_views.proofs.Parts.{committed-next}
+use Rattle.pg_views.proofs.Found.{committed-next}
 use Rattle.pg_views.proofs.atom.committed.Goals as goal
 
 pub loop-t-preserved : goal.loop-t-preserved

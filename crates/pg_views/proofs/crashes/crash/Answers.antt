@@ -1,4 +1,5 @@
-use Rattle.std.proofs.Common.{Err, ap}
+use Rattle.std.proofs.Common.{length, Err, ap, ◌∙◌}
+use Rattle.pg_views.proofs.Found.{values_at-length}
 use Rattle.pg_views.proofs.CrashFaults.{crash_fault-one, crash_fault-no_choice}
 use Rattle.pg_views.proofs.crashes.crash.Goals as goal
 
@@ -13,3 +14,7 @@ returns-in-Ok-clause-exact c = λ f is. absurd (crash_fault-no_choice c.args.s.n
 
 pub returns-in-Err-clause-exact : goal.returns-in-Err-clause-exact
 returns-in-Err-clause-exact c = λ f is. absurd (crash_fault-no_choice c.args.s.now.state c.args.at.now f is c.in_default.ensures)
+
+pub returns-in-Ok-clause-size : goal.returns-in-Ok-clause-size
+returns-in-Ok-clause-size c =
+    ap length c.in-Ok.ensures ∙ (values_at-length c.args.s.now.state.memory 0 c.args.at.now ∙ c.in_default.ensures.size)

@@ -1,0 +1,27 @@
+-- What is found thread by thread, and location by location.
+use Rattle.std.proofs.Common.{◌≡◌, ℕ, suc, ◌+◌, ◌-◌, ◌<◌, max, List, [], ◌∷◌, length, map, drop, get_or, refl, sym, ap, ◌∙◌, arith}
+use Rattle.std.proofs.lemmas.List.{length-map, get_or-map}
+use Rattle.pg_machine.specs.State.{Views, State, greatest, vpc_of}
+use Rattle.pg_machine.specs.Memory.{Memory}
+use Rattle.pg_machine.specs.Step.{views_of}
+use Rattle.pg_machine.proofs.Scan.{greatest-next}
+use Rattle.pg_views.specs.Crash.{values_at}
+
+-- what was committed, thread by thread
+pub committed-next : (s : State) (x m t k : ℕ) → t < length s.views → k ≡ t + 1
+    → max (max m (vpc_of (views_of s k) x)) (greatest (drop (t + 1) (map (λ w. vpc_of w x) s.views))) ≡ max m (greatest (drop t (map (λ w. vpc_of w x) s.views)))
+committed-next s x m t k lt e =
+    let of : Views → ℕ = λ (w : Views). vpc_of w x in
+    let size = length-map s.views of in
+    let place : k - 1 ≡ t = omega (arith, e) in
+    let here : get_or (map of s.views) t 0 ≡ vpc_of (get_or s.views t no_views) x = get_or-map of s.views t no_views 0 lt in
+    let same : vpc_of (views_of s k) x ≡ get_or (map of s.views) t 0 = ap (λ (i : ℕ). vpc_of (get_or s.views i no_views) x) place ∙ sym here in
+    ap (λ (n : ℕ). max (max m n) (greatest (drop (t + 1) (map of s.views)))) same ∙ greatest-next (map of s.views) m t (omega (arith, size, lt))
+  where
+    no_views : Views
+    no_views = record { coh = []; vrn = 0; vpr = 0; vpa = []; vpc = [] }
+
+-- a memory that a crash leaves has a value for each position
+pub values_at-length : (m : Memory) (x : ℕ) (ps : List ℕ) → length (values_at m x ps) ≡ length ps
+values_at-length m x [] = refl
+values_at-length m x (p ∷ ps) = ap suc (values_at-length m (suc x) ps)

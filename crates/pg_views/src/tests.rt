@@ -1,0 +1,467 @@
+//! What holds in small states of a program of two threads, and what a crash may leave of them, worked out by hand.
+
+ghost use Rattle.std.specs.Prelude.{◌≡◌, ◌<◌, ◌^◌, length, IfOk};
+ghost use Rattle.pg_assertion.specs.Layout.{sizes};
+ghost use Rattle.pg_machine.specs.State.{IsWellFormed};
+ghost use Rattle.pg_machine.specs.Plain.{IsPlain, ArePlain};
+
+use crate::atom::holds_atom;
+use crate::crashes::crash;
+use crate::fault::CrashFault;
+use crate::formula::{holds, holds_crash};
+use pg_assertion::{CrashAtom, Formula, Layout, ViewAtom};
+use pg_machine::{Event, State, StepFault};
+use pg_program::{Act, Expr, NameKind, Names, Program, Stmt};
+use sqlite_items::Items;
+use std::alloc::Global;
+use std::test::Fail;
+
+/// Locations x and y, which are 0 at first, and a register of each thread, over two values.
+fn names(alloc: Global) -> Result<Names, Fail>
+    ensures sizes { IfOk result (λ n. (length n.locations ≡ 2) × (length n.scalars ≡ 2)) }
+    ensures domain { IfOk result (λ n. n.domain ≡ 2) }
+{
+    let mut names = Names::make(alloc, 2);
+    names.declare("x", NameKind::Location { init: 0 })?;
+    names.declare("y", NameKind::Location { init: 0 })?;
+    names.declare("a", NameKind::Register { owner: 1 })?;
+    names.declare("b", NameKind::Register { owner: 2 })?;
+    Ok(names)
+}
+
+/// `x := 1` or `y := 1`.
+fn store_one(alloc: Global, location: u8) -> Stmt
+    requires { location < 2 }
+    ensures { IsPlain 2 2 result }
+{
+    let expr = Expr::Value(1);
+    Stmt {
+        act: Act::Store { location, expr },
+        aux: Items::new(alloc),
+    }
+}
+
+/// `b := x` or `b := y`.
+fn load(alloc: Global, location: u8) -> Stmt
+    requires { location < 2 }
+    ensures { IsPlain 2 2 result }
+{
+    Stmt {
+        act: Act::Load {
+            target: 1,
+            location,
+        },
+        aux: Items::new(alloc),
+    }
+}
+
+fn flush(alloc: Global, location: u8) -> Stmt
+    requires { location < 2 }
+    ensures { IsPlain 2 2 result }
+{
+    Stmt {
+        act: Act::Flush { location },
+        aux: Items::new(alloc),
+    }
+}
+
+fn flushopt(alloc: Global, location: u8) -> Stmt
+    requires { location < 2 }
+    ensures { IsPlain 2 2 result }
+{
+    Stmt {
+        act: Act::Flushopt { location },
+        aux: Items::new(alloc),
+    }
+}
+
+fn program(alloc: Global, first: Vec<Stmt>, second: Vec<Stmt>) -> Result<Program, Fail>
+    requires first { ArePlain 2 2 first.items }
+    requires second { ArePlain 2 2 second.items }
+    ensures sizes { IfOk result (λ p. (length p.names.locations ≡ 2) × (length p.threads ≡ 2)) }
+    ensures domain { IfOk result (λ p. p.names.domain ≡ 2) }
+{
+    let threads = vec![in alloc; first, second]?;
+    Ok(Program::build(alloc, names(alloc)?, threads)?)
+}
+
+/// `x := 1; flush x; y := 1;` beside `b := y; flushopt y;`
+fn message(alloc: Global) -> Result<Program, Fail>
+    ensures sizes { IfOk result (λ p. (length p.names.locations ≡ 2) × (length p.threads ≡ 2)) }
+    ensures domain { IfOk result (λ p. p.names.domain ≡ 2) }
+{
+    let sends = vec![in alloc; store_one(alloc, 0), flush(alloc, 0), store_one(alloc, 1)]?;
+    let receives = vec![in alloc; load(alloc, 1), flushopt(alloc, 1)]?;
+    program(alloc, sends, receives)
+}
+
+/// `x := 1;` beside `b := x; b := x;`
+fn two_loads(alloc: Global) -> Result<Program, Fail> {
+    let stores = vec![in alloc; store_one(alloc, 0)]?;
+    let loads = vec![in alloc; load(alloc, 0), load(alloc, 0)]?;
+    program(alloc, stores, loads)
+}
+
+/// Takes a step, and tells the fault where there is one.
+fn fault(state: &mut State, p: &Program, thread: u32, choice: Option<u32>) -> Option<StepFault>
+    requires { IsWellFormed p.now state.old.state }
+    ensures { IsWellFormed p.now state.new.state }
+{
+    match state.step(p, Event { thread, choice }) {
+        Ok(()) => None,
+        Err(fault) => Some(fault),
+    }
+}
+
+#[test]
+fn a_load_goes_not_back(rt: HostRuntime) -> Result<(), Fail> {
+    let alloc = rt.alloc();
+    let p = two_loads(alloc)?;
+    let mut state = State::fresh(alloc, &p)?;
+    state.reserve(1)?;
+    assert_eq!(rt; fault(&mut state, &p, 1, None), None);
+    assert_eq!(rt; fault(&mut state, &p, 2, Some(1)), None);
+    let below = StepFault::BelowCoherence {
+        position: 0,
+        coh: 1,
+    };
+    assert_eq!(rt; fault(&mut state, &p, 2, Some(0)), Some(below));
+    Ok(())
+}
+
+/// The message is sent: position 1 has x = 1, which is flushed, and position 2 has y = 1. The receiver has seen nothing.
+const SENT: [ViewAtom; 42] = [
+    ViewAtom::Scalar { r: 0, k: 0 },
+    ViewAtom::Scalar { r: 1, k: 0 },
+    ViewAtom::Last { x: 0, v: 1 },
+    ViewAtom::Last { x: 1, v: 1 },
+    ViewAtom::Read { t: 1, x: 0, v: 1 },
+    ViewAtom::Read { t: 1, x: 1, v: 1 },
+    ViewAtom::Read { t: 2, x: 0, v: 0 },
+    ViewAtom::Read { t: 2, x: 0, v: 1 },
+    ViewAtom::Read { t: 2, x: 1, v: 0 },
+    ViewAtom::Read { t: 2, x: 1, v: 1 },
+    ViewAtom::Persist { x: 0, v: 1 },
+    ViewAtom::Persist { x: 1, v: 0 },
+    ViewAtom::Persist { x: 1, v: 1 },
+    ViewAtom::Async { t: 1, x: 0, v: 1 },
+    ViewAtom::Async { t: 1, x: 1, v: 0 },
+    ViewAtom::Async { t: 1, x: 1, v: 1 },
+    ViewAtom::Async { t: 2, x: 0, v: 1 },
+    ViewAtom::Async { t: 2, x: 1, v: 0 },
+    ViewAtom::Async { t: 2, x: 1, v: 1 },
+    ViewAtom::Then {
+        t: 1,
+        x: 0,
+        v: 1,
+        y: 0,
+        w: 1,
+    },
+    ViewAtom::Then {
+        t: 1,
+        x: 0,
+        v: 1,
+        y: 1,
+        w: 1,
+    },
+    ViewAtom::Then {
+        t: 1,
+        x: 1,
+        v: 1,
+        y: 0,
+        w: 1,
+    },
+    ViewAtom::Then {
+        t: 1,
+        x: 1,
+        v: 1,
+        y: 1,
+        w: 1,
+    },
+    ViewAtom::Then {
+        t: 2,
+        x: 0,
+        v: 0,
+        y: 0,
+        w: 0,
+    },
+    ViewAtom::Then {
+        t: 2,
+        x: 0,
+        v: 0,
+        y: 0,
+        w: 1,
+    },
+    ViewAtom::Then {
+        t: 2,
+        x: 0,
+        v: 0,
+        y: 1,
+        w: 0,
+    },
+    ViewAtom::Then {
+        t: 2,
+        x: 0,
+        v: 0,
+        y: 1,
+        w: 1,
+    },
+    ViewAtom::Then {
+        t: 2,
+        x: 0,
+        v: 1,
+        y: 0,
+        w: 1,
+    },
+    ViewAtom::Then {
+        t: 2,
+        x: 0,
+        v: 1,
+        y: 1,
+        w: 0,
+    },
+    ViewAtom::Then {
+        t: 2,
+        x: 0,
+        v: 1,
+        y: 1,
+        w: 1,
+    },
+    ViewAtom::Then {
+        t: 2,
+        x: 1,
+        v: 0,
+        y: 0,
+        w: 0,
+    },
+    ViewAtom::Then {
+        t: 2,
+        x: 1,
+        v: 0,
+        y: 0,
+        w: 1,
+    },
+    ViewAtom::Then {
+        t: 2,
+        x: 1,
+        v: 0,
+        y: 1,
+        w: 0,
+    },
+    ViewAtom::Then {
+        t: 2,
+        x: 1,
+        v: 0,
+        y: 1,
+        w: 1,
+    },
+    ViewAtom::Then {
+        t: 2,
+        x: 1,
+        v: 1,
+        y: 0,
+        w: 1,
+    },
+    ViewAtom::Then {
+        t: 2,
+        x: 1,
+        v: 1,
+        y: 1,
+        w: 1,
+    },
+    ViewAtom::Newest { t: 1, x: 0 },
+    ViewAtom::Newest { t: 1, x: 1 },
+    ViewAtom::Ordered { t: 1, x: 0 },
+    ViewAtom::Ordered { t: 1, x: 1 },
+    ViewAtom::Fenced { t: 1, x: 0 },
+    ViewAtom::Fenced { t: 1, x: 1 },
+];
+
+/// The receiver has read y = 1 at position 2, so that it reads x = 1 too, and has begun to write y back.
+const RECEIVED: [ViewAtom; 36] = [
+    ViewAtom::Scalar { r: 0, k: 0 },
+    ViewAtom::Scalar { r: 1, k: 1 },
+    ViewAtom::Last { x: 0, v: 1 },
+    ViewAtom::Last { x: 1, v: 1 },
+    ViewAtom::Read { t: 1, x: 0, v: 1 },
+    ViewAtom::Read { t: 1, x: 1, v: 1 },
+    ViewAtom::Read { t: 2, x: 0, v: 1 },
+    ViewAtom::Read { t: 2, x: 1, v: 1 },
+    ViewAtom::Persist { x: 0, v: 1 },
+    ViewAtom::Persist { x: 1, v: 0 },
+    ViewAtom::Persist { x: 1, v: 1 },
+    ViewAtom::Async { t: 1, x: 0, v: 1 },
+    ViewAtom::Async { t: 1, x: 1, v: 0 },
+    ViewAtom::Async { t: 1, x: 1, v: 1 },
+    ViewAtom::Async { t: 2, x: 0, v: 1 },
+    ViewAtom::Async { t: 2, x: 1, v: 1 },
+    ViewAtom::Then {
+        t: 1,
+        x: 0,
+        v: 1,
+        y: 0,
+        w: 1,
+    },
+    ViewAtom::Then {
+        t: 1,
+        x: 0,
+        v: 1,
+        y: 1,
+        w: 1,
+    },
+    ViewAtom::Then {
+        t: 1,
+        x: 1,
+        v: 1,
+        y: 0,
+        w: 1,
+    },
+    ViewAtom::Then {
+        t: 1,
+        x: 1,
+        v: 1,
+        y: 1,
+        w: 1,
+    },
+    ViewAtom::Then {
+        t: 2,
+        x: 0,
+        v: 1,
+        y: 0,
+        w: 1,
+    },
+    ViewAtom::Then {
+        t: 2,
+        x: 0,
+        v: 1,
+        y: 1,
+        w: 1,
+    },
+    ViewAtom::Then {
+        t: 2,
+        x: 1,
+        v: 1,
+        y: 0,
+        w: 1,
+    },
+    ViewAtom::Then {
+        t: 2,
+        x: 1,
+        v: 1,
+        y: 1,
+        w: 1,
+    },
+    ViewAtom::Newest { t: 1, x: 0 },
+    ViewAtom::Newest { t: 1, x: 1 },
+    ViewAtom::Newest { t: 2, x: 0 },
+    ViewAtom::Newest { t: 2, x: 1 },
+    ViewAtom::Ordered { t: 1, x: 0 },
+    ViewAtom::Ordered { t: 1, x: 1 },
+    ViewAtom::Ordered { t: 2, x: 0 },
+    ViewAtom::Ordered { t: 2, x: 1 },
+    ViewAtom::Fenced { t: 1, x: 0 },
+    ViewAtom::Fenced { t: 1, x: 1 },
+    ViewAtom::Fenced { t: 2, x: 0 },
+    ViewAtom::Fenced { t: 2, x: 1 },
+];
+
+/// Whether of all atoms over the program just these hold.
+fn hold_alone(s: &State, p: &Program, atoms: &[ViewAtom]) -> bool
+    requires formed { IsWellFormed p.now s.now.state }
+    requires domain { p.now.names.domain ≡ 2 }
+    requires threads { length p.now.threads ≡ 2 }
+{
+    let layout = Layout::of(p.names(), p.threads());
+    let mut all = true;
+    for n in 1..layout.atoms() + 1 {
+        let a = layout.atom(n);
+        all = all && holds_atom(s, p, &a) == atoms.contains(&a);
+    }
+    all
+}
+
+#[test]
+fn atoms_hold(rt: HostRuntime) -> Result<(), Fail> {
+    let alloc = rt.alloc();
+    let p = message(alloc)?;
+    let mut state = State::fresh(alloc, &p)?;
+    state.reserve(2)?;
+    assert_eq!(rt; fault(&mut state, &p, 1, None), None);
+    assert_eq!(rt; fault(&mut state, &p, 1, None), None);
+    assert_eq!(rt; fault(&mut state, &p, 1, None), None);
+    assert!(rt; hold_alone(&state, &p, &SENT));
+    assert_eq!(rt; fault(&mut state, &p, 2, Some(2)), None);
+    assert_eq!(rt; fault(&mut state, &p, 2, None), None);
+    assert!(rt; hold_alone(&state, &p, &RECEIVED));
+    Ok(())
+}
+
+/// Positions of x and y, and the fault that a crash has with them once x is flushed and y is not written yet.
+const REFUSED: [([u32; 2], CrashFault); 4] = [
+    (
+        [0, 0],
+        CrashFault::Overwritten {
+            x: 0,
+            position: 0,
+            later: 1,
+        },
+    ),
+    (
+        [0, 9],
+        CrashFault::Overwritten {
+            x: 0,
+            position: 0,
+            later: 1,
+        },
+    ),
+    ([2, 0], CrashFault::NotAPosition { x: 0, position: 2 }),
+    ([1, 1], CrashFault::NotAPosition { x: 1, position: 1 }),
+];
+
+/// The fault of a crash, if it has one.
+fn refusal(alloc: Global, s: &State, p: &Program, at: &[u32]) -> Option<CrashFault>
+    requires formed { IsWellFormed p.now s.now.state }
+    requires few { length at.now < 2 ^ 32 }
+{
+    match crash(alloc, s, p, at) {
+        Ok(_) => None,
+        Err(fault) => Some(fault),
+    }
+}
+
+/// Whether each line of the table has its fault.
+fn are_refused(alloc: Global, s: &State, p: &Program, lines: &[([u32; 2], CrashFault)]) -> bool
+    requires { IsWellFormed p.now s.now.state }
+{
+    let mut all = true;
+    for (at, wanted) in lines {
+        all = all && refusal(alloc, s, p, at) == Some(*wanted);
+    }
+    all
+}
+
+#[test]
+fn crashes_leave_memories(rt: HostRuntime) -> Result<(), Fail> {
+    let alloc = rt.alloc();
+    let p = message(alloc)?;
+    let mut state = State::fresh(alloc, &p)?;
+    assert_eq!(rt; fault(&mut state, &p, 1, None), None);
+    assert_eq!(rt; fault(&mut state, &p, 1, None), None);
+    assert!(rt; are_refused(alloc, &state, &p, &REFUSED));
+    let short = CrashFault::WrongLength {
+        given: 1,
+        wanted: 2,
+    };
+    assert_eq!(rt; refusal(alloc, &state, &p, &[1]), Some(short));
+    assert_eq!(rt; fault(&mut state, &p, 1, None), None);
+    let memory = crash(alloc, &state, &p, &[1, 0])?;
+    assert_eq!(rt; memory.value(0), 1);
+    assert_eq!(rt; memory.value(1), 0);
+    let x = Formula::Atom(CrashAtom::Location { x: 0, v: 1 });
+    let y = Formula::Atom(CrashAtom::Location { x: 1, v: 1 });
+    let follows = Formula::implies(alloc, y, x)?;
+    assert!(rt; holds_crash(&memory, state.scalars(), &follows));
+    let kept = Formula::not(alloc, Formula::Atom(ViewAtom::Persist { x: 0, v: 0 }))?;
+    assert!(rt; holds(&state, &p, &kept));
+    Ok(())
+}
