@@ -1,4 +1,10 @@
-//! Meanings: what atoms, formulas and crash formulas say of a state of the machine, what a crash may leave, and executions.
+//! Meanings: what atoms, formulas and crash formulas say of a state of the machine, what a crash may leave of it, and
+//! executions.
+//!
+//! What this crate promises the layers above: the definitions, in `specs/`: the truth of the nine kinds of atom in a state, by
+//! the positions that a view shows; that of formulas; crash choices and the memories that they leave; when a crash formula
+//! holds at a crash; and executions. `holds_atom`, `holds` and `holds_crash` answer just these meanings, and take no memory.
+//! `crash` gives the memory of a crash choice, or tells exactly the first fault of positions that are none.
 #![tactic(auto)]
 
 mod atom;
