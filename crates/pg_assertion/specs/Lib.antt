@@ -1,3 +1,4 @@
+pub mod Atom
 pub mod Expansion
 pub mod Formula
 pub mod Layout

@@ -111,8 +111,8 @@ fn named(alloc: Global, f: &Formula<CrashAtom>, locations: u8) -> Result<Vec<u8>
     Ok(named)
 }
 
-/// How many of the declared locations the formula names.
-fn named_count(f: &Formula<CrashAtom>, locations: u8) -> usize
+/// How many of so many declared locations the formula names.
+pub fn named_count(f: &Formula<CrashAtom>, locations: u8) -> usize
     ensures { result ≡ length (named locations (plain f.now)) }
 {
     (0..locations).filter(|x| mentions(f, *x)).count()

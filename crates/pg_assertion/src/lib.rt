@@ -16,7 +16,8 @@ mod layout_tests;
 
 pub use atom::{CrashAtom, RawAtom, ViewAtom};
 pub use expansion::{
-    ExpandFault, MAX_EXPANSION_NODES, expand, expansions_have_their_size, vectors_are_the_choices,
+    ExpandFault, MAX_EXPANSION_NODES, expand, expansions_have_their_size, named_count,
+    vectors_are_the_choices,
 };
 pub use formula::Formula;
 pub use layout::{

@@ -11,7 +11,8 @@ use Rattle.pg_assertion_text.specs.Atoms.{raw_atom, crash_atom, IsRaw, IsCrash}
 use Rattle.pg_assertion_text.specs.AtomLaws.{raw_found, raw_again, raw_begins, crash_found, crash_again, crash_begins}
 use Rattle.pg_assertion_text.specs.Follows.{Stops}
 use Rattle.pg_assertion_text.specs.Parsing.{formula_at}
-use Rattle.pg_assertion_text.specs.Spelling.{spell, spell_atom, spell_crash, raw_of}
+use Rattle.pg_assertion_text.specs.Spelling.{spell, spell_atom, spell_crash}
+use Rattle.pg_assertion.specs.Atom.{raw_of}
 use Rattle.pg_assertion_text.specs.SpellingLaws.{cursor}
 use Rattle.pg_assertion_text.specs.ReadAgain.{FormulasAreReadAgain, CrashFormulasAreReadAgain, IsReadAgain, IsCrashReadAgain}
 use Rattle.pg_assertion_text.proofs.Spelling.{spelling_stands, crash_spelling_stands, nodes-with_atoms}

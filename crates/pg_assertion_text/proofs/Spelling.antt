@@ -7,7 +7,8 @@ use Rattle.pg_assertion.specs.declared.atom.CrashAtom.{CrashAtom}
 use Rattle.pg_assertion.specs.Formula.{Plain, top, bottom, atom, neg, both, either, implies, nodes, AllAtoms, with_atoms}
 use Rattle.pg_assertion_text.specs.Atoms.{IsRaw, IsCrash}
 use Rattle.pg_assertion_text.specs.Grammar.{Rule, unary, conj, disj, formula, Is, a_true, a_false, an_atom, a_not, a_bracket, a_conj, an_and, a_disj, an_or, a_formula, an_implies}
-use Rattle.pg_assertion_text.specs.Spelling.{Ends, spell, spell_atom, spell_crash, opens, rule_of, looseness, is_loose, in_brackets, bracket, raw_of}
+use Rattle.pg_assertion_text.specs.Spelling.{Ends, spell, spell_atom, spell_crash, opens, rule_of, looseness, is_loose, in_brackets, bracket}
+use Rattle.pg_assertion.specs.Atom.{raw_of}
 use Rattle.pg_assertion_text.specs.SpellingLaws.{cursor, SpellingStands, CrashSpellingStands}
 use Rattle.pg_assertion_text.proofs.SpellingTokens.{Spells, joined, blank, mapped, widened, here, is_equal, not_stands, and_stands, or_stands, arrow_stands, open_stands, close_stands, true_stands, false_stands}
 use Rattle.pg_assertion_text.proofs.SpellingAtoms.{IsSpelled, raw_spelled, crash_spelled}

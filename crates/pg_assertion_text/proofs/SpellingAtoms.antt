@@ -16,7 +16,8 @@ use Rattle.pg_assertion.specs.declared.atom.CrashAtom.{CrashAtom}
 use Rattle.pg_assertion.specs.declared.atom.CrashAtom.TheVariants as crash
 use Rattle.pg_assertion_text.specs.Words.{Item, Stands, Stand, sign, number, location, scalar}
 use Rattle.pg_assertion_text.specs.Atoms.{listed, applied, IsRaw, IsCrash}
-use Rattle.pg_assertion_text.specs.Spelling.{Ends, IsName, AreNames, raw_of, name_in, location_name, scalar_name, equation, arguments, spell_atom, spell_crash}
+use Rattle.pg_assertion_text.specs.Spelling.{Ends, IsName, AreNames, name_in, location_name, scalar_name, equation, arguments, spell_atom, spell_crash}
+use Rattle.pg_assertion.specs.Atom.{raw_of}
 use Rattle.pg_assertion_text.specs.SpellingLaws.{IsWritable, IsWritableCrash}
 use Rattle.pg_assertion_text.proofs.SpellingTokens.{Spells, Anything, joined, blank, mapped, widened, is_equal, letter_stands, open_stands, close_stands, comma_stands, equal_stands, word_stands, number_stands}
 

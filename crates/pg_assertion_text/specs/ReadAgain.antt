@@ -8,7 +8,8 @@ use Rattle.pg_assertion_text.specs.declared.parse.TheConstants.{MAX_NODES, MAX_O
 use Rattle.pg_assertion_text.specs.Atoms.{raw_atom, crash_atom}
 use Rattle.pg_assertion_text.specs.Parsing.{formula_at}
 use Rattle.pg_assertion_text.specs.Follows.{Stops}
-use Rattle.pg_assertion_text.specs.Spelling.{AreNames, Ends, spell, spell_atom, spell_crash, opens, raw_of}
+use Rattle.pg_assertion_text.specs.Spelling.{AreNames, Ends, spell, spell_atom, spell_crash, opens}
+use Rattle.pg_assertion.specs.Atom.{raw_of}
 use Rattle.pg_assertion_text.specs.SpellingLaws.{IsWritable, IsWritableCrash, cursor}
 
 -- The limits of a text are kept: the names are names of the grammar, those of the formula are declared, its numbers can be

@@ -6,8 +6,6 @@ use Rattle.pg_lex.specs.Grammar.{AllIn, Begins, Stops}
 use Rattle.pg_program.specs.NameTable.{NameTable}
 use Rattle.pg_assertion.specs.declared.atom.ViewAtom.{ViewAtom}
 use Rattle.pg_assertion.specs.declared.atom.ViewAtom.TheVariants as view
-use Rattle.pg_assertion.specs.declared.atom.RawAtom.{RawAtom}
-use Rattle.pg_assertion.specs.declared.atom.RawAtom.TheVariants as raw
 use Rattle.pg_assertion.specs.declared.atom.CrashAtom.{CrashAtom}
 use Rattle.pg_assertion.specs.declared.atom.CrashAtom.TheVariants as crash
 use Rattle.pg_assertion.specs.Formula.{Plain, top, bottom, atom, neg, both, either, implies}
@@ -118,34 +116,6 @@ pub record AreNames (t : NameTable) : Type 0 where
 -- a text may follow a word or a number
 abbrev pub Ends : List ℕ → Type 0
 Ends more = Stops is_word more
-
--- the atom as a text has it
-abbrev pub raw_of : ViewAtom → RawAtom
-raw_of (view.Scalar r k) = raw.Scalar r k
-raw_of (view.Last x v) = raw.Last x v
-raw_of (view.Read t x v) = raw.Read t x v
-raw_of (view.Persist x v) = raw.Persist x v
-raw_of (view.Async t x v) = raw.Async t x v
-raw_of (view.Then t x v y w) = raw.Then t x v y w
-raw_of (view.Newest t x) = raw.Newest t x
-raw_of (view.Ordered t x) = raw.Ordered t x
-raw_of (view.Fenced t x) = raw.Fenced t x
-
--- the names of an atom are declared
-abbrev pub NamesDeclared : NameTable → ViewAtom → Type 0
-NamesDeclared names (view.Scalar r k) = r < length names.scalars
-NamesDeclared names (view.Last x v) = x < length names.locations
-NamesDeclared names (view.Read t x v) = x < length names.locations
-NamesDeclared names (view.Persist x v) = x < length names.locations
-NamesDeclared names (view.Async t x v) = x < length names.locations
-NamesDeclared names (view.Then t x v y w) = (x < length names.locations) × (y < length names.locations)
-NamesDeclared names (view.Newest t x) = x < length names.locations
-NamesDeclared names (view.Ordered t x) = x < length names.locations
-NamesDeclared names (view.Fenced t x) = x < length names.locations
-
-abbrev pub CrashDeclared : NameTable → CrashAtom → Type 0
-CrashDeclared names (crash.Scalar r k) = r < length names.scalars
-CrashDeclared names (crash.Location x v) = x < length names.locations
 
 -- the numbers of an atom can be read
 abbrev pub NumbersFit : ViewAtom → Type 0

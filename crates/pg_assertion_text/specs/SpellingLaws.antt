@@ -7,7 +7,8 @@ use Rattle.pg_assertion.specs.declared.atom.CrashAtom.{CrashAtom}
 use Rattle.pg_assertion.specs.Formula.{Plain, AllAtoms, with_atoms}
 use Rattle.pg_assertion_text.specs.Atoms.{IsRaw, IsCrash}
 use Rattle.pg_assertion_text.specs.Grammar.{Is, formula}
-use Rattle.pg_assertion_text.specs.Spelling.{AreNames, Ends, NamesDeclared, NumbersFit, CrashDeclared, CrashFits, spell, spell_atom, spell_crash, opens, raw_of}
+use Rattle.pg_assertion_text.specs.Spelling.{AreNames, Ends, NumbersFit, CrashFits, spell, spell_atom, spell_crash, opens}
+use Rattle.pg_assertion.specs.Atom.{NamesDeclared, CrashDeclared, raw_of}
 
 abbrev pub cursor : ℕ → List ℕ → Cursor
 cursor at rest = record { at = at; rest = rest }

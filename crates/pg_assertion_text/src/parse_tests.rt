@@ -2,7 +2,7 @@
 
 ghost use Rattle.std.specs.Prelude.{◌≡◌, ◌≤◌, IsTrue, IfOk, IfSome};
 ghost use Rattle.pg_assertion.specs.Formula.{plain, nodes, AllAtoms};
-ghost use Rattle.pg_assertion_text.specs.Spelling.{NamesDeclared, CrashDeclared};
+ghost use Rattle.pg_assertion.specs.Atom.{NamesDeclared, CrashDeclared};
 
 use crate::parse::{parse_crash, parse_formula};
 use crate::print::{print_crash, print_formula};

@@ -27,7 +27,7 @@ pub fn print_formula(
     names: &Names,
     into: &mut Vec<u8>,
 ) -> Result<(), AllocError>
-    requires { AllAtoms (spec.NamesDeclared names.now) (plain f.now) }
+    requires { AllAtoms (NamesDeclared names.now) (plain f.now) }
     ensures ok { OnOk result (into.new.items ≡ into.old.items ++ spec.spell (spec.spell_atom names.now) (plain f.now)) }
     ensures err { OnErr result (into.new.items ≡ into.old.items) }
     ensures again { IsReadAgain names.now (plain f.now) }
@@ -42,7 +42,7 @@ pub fn print_crash(
     names: &Names,
     into: &mut Vec<u8>,
 ) -> Result<(), AllocError>
-    requires { AllAtoms (spec.CrashDeclared names.now) (plain f.now) }
+    requires { AllAtoms (CrashDeclared names.now) (plain f.now) }
     ensures ok { OnOk result (into.new.items ≡ into.old.items ++ spec.spell (spec.spell_crash names.now) (plain f.now)) }
     ensures err { OnErr result (into.new.items ≡ into.old.items) }
     ensures again { IsCrashReadAgain names.now (plain f.now) }
@@ -144,7 +144,8 @@ trait PrintAtom {
 }
 
 impl PrintAtom for ViewAtom {
-    ghost use Rattle.pg_assertion_text.specs.Spelling.{spell_atom, NamesDeclared};
+    ghost use Rattle.pg_assertion_text.specs.Spelling.{spell_atom};
+ghost use Rattle.pg_assertion.specs.Atom.{NamesDeclared};
 
     ghost spelled = { spell_atom };
 
@@ -192,7 +193,8 @@ impl PrintAtom for ViewAtom {
 }
 
 impl PrintAtom for CrashAtom {
-    ghost use Rattle.pg_assertion_text.specs.Spelling.{spell_crash, CrashDeclared};
+    ghost use Rattle.pg_assertion_text.specs.Spelling.{spell_crash};
+ghost use Rattle.pg_assertion.specs.Atom.{CrashDeclared};
 
     ghost spelled = { spell_crash };
 

@@ -2,7 +2,7 @@
 
 ghost use Rattle.std.specs.Prelude.{◌≡◌, ◌<◌, IsTrue, IfOk, length};
 ghost use Rattle.pg_assertion.specs.Formula.{plain, AllAtoms};
-ghost use Rattle.pg_assertion_text.specs.Spelling.{NamesDeclared, CrashDeclared};
+ghost use Rattle.pg_assertion.specs.Atom.{NamesDeclared, CrashDeclared};
 
 use crate::print::{print_crash, print_formula};
 use pg_assertion::{CrashAtom, Formula, ViewAtom};

@@ -5,7 +5,7 @@ use Rattle.pg_lex.specs.Lex.{Cursor, token, lexeme_at, behind_gap}
 use Rattle.pg_lex.specs.Piece.{piece}
 use Rattle.pg_program.specs.NameTable.{NameTable}
 use Rattle.pg_assertion.specs.Formula.{with_atoms}
-use Rattle.pg_assertion_text.specs.Spelling.{raw_of}
+use Rattle.pg_assertion.specs.Atom.{raw_of}
 use Rattle.pg_assertion_text.specs.SpellingLaws.{cursor}
 use Rattle.pg_program_text.specs.declared.thread.TheConstants.{MAX_POINTS}
 use Rattle.pg_program_text.specs.Grammar.{BeginsNone}

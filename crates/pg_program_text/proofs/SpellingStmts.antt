@@ -22,7 +22,8 @@ use Rattle.pg_assertion_text.specs.Input.{is_sign}
 use Rattle.pg_assertion_text.specs.Follows.{Stops}
 use Rattle.pg_assertion_text.specs.Atoms.{IsRaw}
 use Rattle.pg_assertion_text.specs.Grammar as formulas
-use Rattle.pg_assertion_text.specs.Spelling.{AreNames, Ends, spell_atom, raw_of}
+use Rattle.pg_assertion_text.specs.Spelling.{AreNames, Ends, spell_atom}
+use Rattle.pg_assertion.specs.Atom.{raw_of}
 use Rattle.pg_assertion_text.specs.Spelling as formula_spelling
 use Rattle.pg_assertion_text.specs.SpellingLaws as formula_laws
 use Rattle.pg_assertion_text.specs.ReadAgain.{IsWhole}

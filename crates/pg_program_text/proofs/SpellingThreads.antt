@@ -21,7 +21,8 @@ use Rattle.pg_assertion.specs.declared.atom.ViewAtom.{ViewAtom}
 use Rattle.pg_assertion.specs.declared.atom.RawAtom.{RawAtom}
 use Rattle.pg_assertion.specs.Formula.{Plain, with_atoms}
 use Rattle.pg_assertion_text.specs.Words.{Stands, sign, word}
-use Rattle.pg_assertion_text.specs.Spelling.{AreNames, raw_of}
+use Rattle.pg_assertion_text.specs.Spelling.{AreNames}
+use Rattle.pg_assertion.specs.Atom.{raw_of}
 use Rattle.pg_assertion_text.specs.SpellingLaws as formula_laws
 use Rattle.pg_assertion_text.specs.SpellingLaws.{cursor}
 use Rattle.pg_assertion_text.specs.ReadAgain.{IsWhole}

@@ -13,7 +13,8 @@ use Rattle.pg_program.specs.Graph.{size, statements, is_test}
 use Rattle.pg_program.specs.Fault.{is_auxiliary}
 use Rattle.pg_assertion.specs.declared.atom.ViewAtom.{ViewAtom}
 use Rattle.pg_assertion.specs.Formula.{Plain, with_atoms}
-use Rattle.pg_assertion_text.specs.Spelling.{AreNames, Ends, raw_of}
+use Rattle.pg_assertion_text.specs.Spelling.{AreNames, Ends}
+use Rattle.pg_assertion.specs.Atom.{raw_of}
 use Rattle.pg_assertion_text.specs.SpellingLaws as formulas
 use Rattle.pg_assertion_text.specs.SpellingLaws.{cursor}
 use Rattle.pg_assertion_text.specs.ReadAgain.{IsWhole}

@@ -6,7 +6,7 @@ use Rattle.pg_program.specs.Block.{block, first_of, second_of}
 use Rattle.pg_program.specs.Graph.{size}
 use Rattle.pg_assertion.specs.declared.atom.ViewAtom.{ViewAtom}
 use Rattle.pg_assertion.specs.Formula.{Plain, plain, AllAtoms}
-use Rattle.pg_assertion_text.specs.Spelling.{NamesDeclared}
+use Rattle.pg_assertion.specs.Atom.{NamesDeclared}
 use Rattle.pg_program_text.specs.Spelling.{spell_block, stmt_lines, BlockDeclared}
 use Rattle.pg_program_text.proofs.Spelling.{size_turn, notes_turn, text_turn, declared_turn, all_drop}
 use Rattle.pg_program_text.proofs.print.+lines.Goals as goal

@@ -3,7 +3,7 @@ use Rattle.std.specs.List.{All}
 use Rattle.pg_program.specs.Block.{block, first_of, second_of}
 use Rattle.pg_program.specs.Graph.{size}
 use Rattle.pg_assertion.specs.Formula.{plain, AllAtoms}
-use Rattle.pg_assertion_text.specs.Spelling.{NamesDeclared}
+use Rattle.pg_assertion.specs.Atom.{NamesDeclared}
 use Rattle.pg_program_text.specs.Spelling as spec
 use Rattle.pg_program_text.proofs.print.+lines.Given as goal
 
