@@ -1,0 +1,4 @@
+pub mod Codes
+pub mod Outline
+pub mod Fault
+pub mod Made

@@ -1,0 +1,146 @@
+//! Outlines that were built.
+
+ghost use Rattle.std.specs.Prelude.{◌≡◌, ◌≤◌, length, map};
+ghost use Rattle.pg_assertion.specs.Formula.{plain, AllAtoms};
+ghost use Rattle.pg_assertion.specs.Expansion.{expansion, IsAtomOf};
+ghost use Rattle.pg_program.specs.Program.{points, IsProgram};
+ghost use Rattle.pg_outline.specs.Outline.{IsSmall};
+ghost use Rattle.pg_outline.specs.Fault.{first_of, locations_fault, size_fault};
+ghost use Rattle.pg_outline.specs.Made.{Makes};
+
+use crate::fault::OutlineFault;
+use crate::view::{Scope, check_crash, viewed, viewed_threads};
+use pg_assertion::{CrashAtom, ExpandFault, Formula, RawAtom, ViewAtom, expand, named_count};
+use pg_program::{Names, PointId, Program};
+use std::alloc::Global;
+use std::marker::Model;
+
+/// The most nodes that a formula may have.
+pub const MAX_NODES: u64 = 512;
+
+/// The most locations that a crash formula may name.
+pub const MAX_CRASH_LOCATIONS: usize = 3;
+
+/// A well-formed outline.
+#[derive(Debug, Drop)]
+pub struct Outline {
+    program: Program,
+    pre: Formula<ViewAtom>,
+    crash: Formula<CrashAtom>,
+    expanded: Formula<ViewAtom>,
+    notes: Vec<Vec<Formula<ViewAtom>>>,
+}
+
+impl Model for Outline {
+    ghost use Rattle.std.specs.Prelude.{map, ◌≡◌};
+    ghost use Rattle.std.specs.Coded.{codes};
+    ghost use Rattle.pg_program.specs.contracts.syntax.Stmt as stmt;
+    ghost use Rattle.pg_assertion.specs.Formula.{plain};
+    ghost use Rattle.pg_assertion.specs.Expansion.{expansion};
+    ghost use Rattle.pg_outline.specs.Codes.{view_code, crash_code};
+    ghost use Rattle.pg_outline.specs.Outline.{OutlineTable};
+    ghost use Rattle.pg_outline.specs.Made.{IsOutline};
+
+    ghost Value = { OutlineTable };
+
+    ghost coded = { Prim.hlevel (codes, stmt.the_row.coded, view_code, crash_code) };
+
+    ghost view = { λ o. record { program = o.program; pre = plain o.pre; crash = plain o.crash; notes = map (λ t. map plain t.items) o.notes.items } };
+
+    ghost invariant = { λ o. IsOutline (record { program = o.program; pre = plain o.pre; crash = plain o.crash; notes = map (λ t. map plain t.items) o.notes.items }) × (plain o.expanded ≡ expansion o.program.names (plain o.crash)) };
+}
+
+impl Outline {
+    ghost use Rattle.pg_outline.specs.Outline.{OutlineTable, IsDraft, draft_of, note_at};
+    ghost use Rattle.pg_outline.specs.Fault.{first_fault};
+
+    /// The outline of a program and its formulas, with an assertion for each point of each thread, in the order of the text; or
+    /// the first fault of the formulas.
+    pub fn build(
+        alloc: Global,
+        program: Program,
+        pre: Formula<RawAtom>,
+        crash: Formula<CrashAtom>,
+        notes: Vec<Vec<Formula<RawAtom>>>,
+    ) -> Result<Outline, OutlineFault>
+        requires { IsDraft (record { program = program; pre = plain pre; crash = plain crash; notes = map (λ t. map plain t.items) notes.items }) }
+        ensures {
+            let draft = record { program = program; pre = plain pre; crash = plain crash; notes = map (λ t. map plain t.items) notes.items } in
+            Makes draft_of draft (first_fault draft) result
+        }
+    {
+        let scope = Scope {
+            domain: program.names().domain(),
+            threads: program.threads(),
+        };
+        let pre = viewed(alloc, scope, &pre)?;
+        check_crash(scope, &crash)?;
+        let notes = viewed_threads(alloc, scope, &notes)?;
+        let expanded = expanded(alloc, &crash, program.names())?;
+        Ok(Outline {
+            program,
+            pre,
+            crash,
+            expanded,
+            notes,
+        })
+    }
+
+    /// The program.
+    pub fn program(&self) -> &Program
+        ensures { result.now ≡ self.now.program }
+    {
+        &self.program
+    }
+
+    /// The precondition.
+    pub fn pre(&self) -> &Formula<ViewAtom>
+        ensures { plain result.now ≡ self.now.pre }
+    {
+        &self.pre
+    }
+
+    /// The crash formula.
+    pub fn crash(&self) -> &Formula<CrashAtom>
+        ensures { plain result.now ≡ self.now.crash }
+    {
+        &self.crash
+    }
+
+    /// The expansion of the crash formula.
+    pub fn crash_expanded(&self) -> &Formula<ViewAtom>
+        ensures { plain result.now ≡ expansion self.now.program.names self.now.crash }
+    {
+        &self.expanded
+    }
+
+    /// The assertion at a point.
+    pub fn note(&self, at: PointId) -> &Formula<ViewAtom>
+        requires thread { (1 ≤ at.thread) × (at.thread ≤ length self.now.program.threads) }
+        requires point { (1 ≤ at.point) × (at.point ≤ points self.now.program at.thread) }
+        ensures { plain result.now ≡ note_at self.now at.thread at.point }
+    {
+        &self.notes[usize::from(at.thread) - 1][usize::from(at.point) - 1]
+    }
+}
+
+/// The expansion of a crash formula whose values are in the domain.
+fn expanded(
+    alloc: Global,
+    crash: &Formula<CrashAtom>,
+    names: &Names,
+) -> Result<Formula<ViewAtom>, OutlineFault>
+    requires domain { (2 ≤ names.now.domain) × (names.now.domain ≤ 4) }
+    requires crash { IsSmall (IsAtomOf names.now) (plain crash.now) }
+    ensures { Makes plain (expansion names.now (plain crash.now)) (first_of (locations_fault names.now (plain crash.now)) (size_fault names.now (plain crash.now))) result }
+{
+    let locations = named_count(crash, names.locations());
+    if locations > MAX_CRASH_LOCATIONS {
+        return Err(OutlineFault::CrashLocations(locations as u32));
+    }
+    match expand(alloc, crash, names) {
+        Ok(f) => Ok(f),
+        Err(ExpandFault::TooLarge(n)) => Err(OutlineFault::CrashNodes(n)),
+        Err(ExpandFault::NoMemory) => Err(OutlineFault::NoMemory),
+    }
+}
