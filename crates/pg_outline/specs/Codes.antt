@@ -1,5 +1,5 @@
 -- Codes of formulas, by which values that hold formulas are told apart: a formula is coded as the formula of the code's own type.
-use Rattle.std.proofs.Common.{◌≡◌, refl, sym, ap, ap₂, ◌∙◌}
+use Rattle.std.proofs.Common.{◌≡◌, sym, ap, ap₂, ◌∙◌}
 use Rattle.std.specs.Coded.{Coded, code_by}
 use Rattle.pg_assertion.specs.declared.atom.ViewAtom.{ViewAtom}
 use Rattle.pg_assertion.specs.declared.atom.CrashAtom.{CrashAtom}

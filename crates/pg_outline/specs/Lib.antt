@@ -2,3 +2,4 @@ pub mod Codes
 pub mod Outline
 pub mod Fault
 pub mod Made
+pub mod Parts

@@ -1,8 +1,8 @@
 -- What making an outline answers.
-use Rattle.std.specs.Prelude.{◌≡◌, ◌≢◌, Option, None, Some, Result, Ok, Err}
+use Rattle.std.specs.Prelude.{◌≡◌, ◌≢◌, None, Some, Result, Ok, Err}
 use Rattle.pg_outline.specs.declared.fault.OutlineFault.{OutlineFault}
 use Rattle.pg_outline.specs.declared.fault.OutlineFault.TheVariants.{NoMemory}
-use Rattle.pg_outline.specs.Outline.{OutlineTable, Draft, IsDraft, draft_of}
+use Rattle.pg_outline.specs.Outline.{OutlineTable, IsDraft, draft_of}
 use Rattle.pg_outline.specs.Fault.{Fault, first_fault}
 
 -- what is made of a part is that part, where it has no fault; and else its first fault is told, unless memory runs out

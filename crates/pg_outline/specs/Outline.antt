@@ -1,6 +1,5 @@
 -- What a contract sees of an `Outline`, and of the parts that one is made of.
 use Rattle.std.specs.Prelude.{◌≡◌, ℕ, ◌+◌, ◌-◌, ◌≤◌, List, [], length, map, All, slice_index_or}
-use Rattle.pg_program.specs.NameTable.{NameTable}
 use Rattle.pg_program.specs.Block.{block}
 use Rattle.pg_program.specs.Graph.{size}
 use Rattle.pg_program.specs.Program.{ProgramTable, IsProgram}

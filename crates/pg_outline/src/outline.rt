@@ -1,10 +1,12 @@
 //! Outlines that were built.
 
-ghost use Rattle.std.specs.Prelude.{◌≡◌, ◌≤◌, length, map};
+ghost use Rattle.std.specs.Prelude.{◌≡◌, ◌-◌, ◌≤◌, [], length, map, slice_index_or};
 ghost use Rattle.pg_assertion.specs.Formula.{plain, AllAtoms};
 ghost use Rattle.pg_assertion.specs.Expansion.{expansion, IsAtomOf};
 ghost use Rattle.pg_program.specs.Program.{points, IsProgram};
-ghost use Rattle.pg_outline.specs.Outline.{IsSmall};
+ghost use Rattle.pg_assertion.specs.Atom.{CrashDeclared};
+ghost use Rattle.pg_outline.specs.Outline.{Draft, IsSmall};
+ghost use Rattle.pg_outline.specs.Parts.{AreParts};
 ghost use Rattle.pg_outline.specs.Fault.{first_of, locations_fault, size_fault};
 ghost use Rattle.pg_outline.specs.Made.{Makes};
 
@@ -64,25 +66,16 @@ impl Outline {
         notes: Vec<Vec<Formula<RawAtom>>>,
     ) -> Result<Outline, OutlineFault>
         requires { IsDraft (record { program = program; pre = plain pre; crash = plain crash; notes = map (λ t. map plain t.items) notes.items }) }
-        ensures {
-            let draft = record { program = program; pre = plain pre; crash = plain crash; notes = map (λ t. map plain t.items) notes.items } in
-            Makes draft_of draft (first_fault draft) result
-        }
+        ensures { let draft : Draft = record { program = program; pre = plain pre; crash = plain crash; notes = map (λ t. map plain t.items) notes.items } in
+            Makes draft_of draft (first_fault draft) result }
     {
-        let scope = Scope {
-            domain: program.names().domain(),
-            threads: program.threads(),
-        };
-        let pre = viewed(alloc, scope, &pre)?;
-        check_crash(scope, &crash)?;
-        let notes = viewed_threads(alloc, scope, &notes)?;
-        let expanded = expanded(alloc, &crash, program.names())?;
+        let parts = viewed_parts(alloc, &program, &pre, &crash, &notes)?;
         Ok(Outline {
             program,
-            pre,
+            pre: parts.pre,
             crash,
-            expanded,
-            notes,
+            expanded: parts.expanded,
+            notes: parts.notes,
         })
     }
 
@@ -120,8 +113,52 @@ impl Outline {
         requires point { (1 ≤ at.point) × (at.point ≤ points self.now.program at.thread) }
         ensures { plain result.now ≡ note_at self.now at.thread at.point }
     {
-        &self.notes[usize::from(at.thread) - 1][usize::from(at.point) - 1]
+        &self.thread_notes(at.thread)[usize::from(at.point) - 1]
     }
+
+    /// The assertions of a thread's points.
+    fn thread_notes(&self, thread: u8) -> &[Formula<ViewAtom>]
+        requires { (1 ≤ thread) × (thread ≤ length self.now.program.threads) }
+        ensures notes { map plain result.now ≡ slice_index_or self.now.notes (thread - 1) [] }
+        ensures one_a_point { length result.now ≡ points self.now.program thread }
+    {
+        self.notes[usize::from(thread) - 1].as_slice()
+    }
+}
+
+/// What is made of the formulas of an outline.
+#[derive(Drop)]
+struct Parts {
+    pre: Formula<ViewAtom>,
+    expanded: Formula<ViewAtom>,
+    notes: Vec<Vec<Formula<ViewAtom>>>,
+}
+
+/// The parts of an outline, or the first fault of its formulas.
+fn viewed_parts(
+    alloc: Global,
+    program: &Program,
+    pre: &Formula<RawAtom>,
+    crash: &Formula<CrashAtom>,
+    notes: &[Vec<Formula<RawAtom>>],
+) -> Result<Parts, OutlineFault>
+    requires { IsSmall (CrashDeclared program.now.names) (plain crash.now) }
+    ensures { let draft : Draft = record { program = program.now; pre = plain pre.now; crash = plain crash.now; notes = map (λ t. map plain t.items) notes.now } in
+        AreParts draft result }
+{
+    let scope = Scope {
+        domain: program.names().domain(),
+        threads: program.threads(),
+    };
+    let pre = viewed(alloc, scope, pre)?;
+    check_crash(scope, crash)?;
+    let notes = viewed_threads(alloc, scope, notes)?;
+    let expanded = expanded(alloc, crash, program.names())?;
+    Ok(Parts {
+        pre,
+        expanded,
+        notes,
+    })
 }
 
 /// The expansion of a crash formula whose values are in the domain.

@@ -92,6 +92,7 @@ fn viewed_atom(scope: Scope, atom: RawAtom) -> Result<ViewAtom, OutlineFault>
 }
 
 /// An assertion.
+#[tactic(auto, unfolding(pg_assertion::specs::Formula::with_atoms))]
 pub fn viewed(
     alloc: Global,
     scope: Scope,
@@ -100,27 +101,27 @@ pub fn viewed(
     requires { (scope.domain ≤ 4) × (scope.threads ≤ 4) }
     ensures { Makes (λ g. with_atoms raw_of (plain g)) (plain f.now) (in_formula (atom_fault scope.domain scope.threads) (plain f.now)) result }
 {
-    Ok(match f {
-        Formula::True => Formula::True,
-        Formula::False => Formula::False,
-        Formula::Atom(atom) => Formula::Atom(viewed_atom(scope, *atom)?),
-        Formula::Not(f) => Formula::not(alloc, viewed(alloc, scope, f.get())?)?,
+    match f {
+        Formula::True => Ok(Formula::True),
+        Formula::False => Ok(Formula::False),
+        Formula::Atom(atom) => Ok(Formula::Atom(viewed_atom(scope, *atom)?)),
+        Formula::Not(f) => Ok(Formula::not(alloc, viewed(alloc, scope, f.get())?)?),
         Formula::And(f, g) => {
             let f = viewed(alloc, scope, f.get())?;
             let g = viewed(alloc, scope, g.get())?;
-            Formula::and(alloc, f, g)?
+            Ok(Formula::and(alloc, f, g)?)
         }
         Formula::Or(f, g) => {
             let f = viewed(alloc, scope, f.get())?;
             let g = viewed(alloc, scope, g.get())?;
-            Formula::or(alloc, f, g)?
+            Ok(Formula::or(alloc, f, g)?)
         }
         Formula::Implies(f, g) => {
             let f = viewed(alloc, scope, f.get())?;
             let g = viewed(alloc, scope, g.get())?;
-            Formula::implies(alloc, f, g)?
+            Ok(Formula::implies(alloc, f, g)?)
         }
-    })
+    }
 }
 
 /// The assertions of a thread's points.

@@ -1,0 +1,61 @@
+-- The first fault of a text: of its tokens or of its version, in the order of the text; then of the program, then of the
+-- outline.
+use Rattle.std.specs.Prelude.{◌≡◌, ℕ, ◌==◌, if◌then◌else◌, List, Option, Some, None, option_map, Result, Ok, Err}
+use Rattle.pg_lex.specs.declared.fault.TextFault.{TextFault}
+use Rattle.pg_program.specs.Fault as program
+use Rattle.pg_outline.specs.declared.fault.OutlineFault.{OutlineFault}
+use Rattle.pg_outline.specs.declared.fault.OutlineFault.TheVariants as outline_fault
+use Rattle.pg_outline.specs.Fault as outline
+use Rattle.pg_assertion_text.specs.Input.{Outcome}
+use Rattle.pg_outline_text.specs.declared.fault.FileFault.{FileFault}
+use Rattle.pg_outline_text.specs.declared.fault.FileFault.TheVariants.{Text, Version, Program, Outline, NoMemory}
+use Rattle.pg_outline_text.specs.Source.{Source, program_of, draft}
+use Rattle.pg_outline_text.specs.Reading.{version, outline, whole}
+
+-- a fault with what it keeps, where a name is its bytes
+pub data Fault : Type 0 where
+  text : TextFault → Fault
+  other_version : ℕ → Fault
+  program : program.Fault → Fault
+  outline : OutlineFault → Fault
+
+-- the fault that an answer tells, if it is one of the file
+abbrev pub told : FileFault → Option Fault
+told (Text f) = Some (text f)
+told (Version n) = Some (other_version n)
+told (Program f) = option_map program (program.told f)
+told (Outline f) = Some (outline f)
+told NoMemory = None
+
+-- the version that this reader knows
+abbrev pub known_version : ℕ
+known_version = 1
+
+abbrev pub source_in : Outcome Source → Result Source Fault
+source_in (Ok p) = Ok p.0
+source_in (Err f) = Err (text f)
+
+-- no token behind another version is looked at
+abbrev pub behind_version : Outcome ℕ → Result Source Fault
+behind_version (Ok p) = if p.0 == known_version then source_in (Reading.outline p.1) else Err (other_version p.0)
+behind_version (Err f) = Err (text f)
+
+-- what a text is read as, or its first fault
+unfoldable pub source_of : List ℕ → Result Source Fault
+source_of bytes = behind_version (version (whole bytes))
+
+-- the first fault of what was read
+abbrev pub fault_in : Source → Option Fault
+fault_in s = first_of (option_map program (program.first_fault s.names (program_of s).threads)) (option_map outline (outline.first_fault (draft s)))
+  where
+    first_of : Option Fault → Option Fault → Option Fault
+    first_of (Some f) g = Some f
+    first_of None g = g
+
+abbrev pub fault_of : Result Source Fault → Option Fault
+fault_of (Ok s) = fault_in s
+fault_of (Err f) = Some f
+
+-- the first fault of a text
+abbrev pub first_fault : List ℕ → Option Fault
+first_fault bytes = fault_of (source_of bytes)

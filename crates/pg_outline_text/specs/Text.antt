@@ -1,0 +1,26 @@
+-- What a text of an outline stands for.
+use Rattle.std.specs.Prelude.{◌≡◌, List, ℕ, None, Some, Result, Ok, Err, IfSome, MatchResult}
+use Rattle.pg_outline.specs.Outline.{OutlineTable}
+use Rattle.pg_outline_text.specs.declared.fault.FileFault.{FileFault}
+use Rattle.pg_outline_text.specs.declared.fault.FileFault.TheVariants.{NoMemory}
+use Rattle.pg_outline_text.specs.Source.{Source, IsMadeOf}
+use Rattle.pg_outline_text.specs.Grammar.{IsSourceText}
+use Rattle.pg_outline_text.specs.Fault.{told, first_fault}
+
+-- the bytes are a text of the grammar, and the outline is made of it
+pub record StandsFor (bytes : List ℕ) (o : OutlineTable) : Type 0 where
+  pub source : Source
+  pub text : IsSourceText bytes source
+  pub made : IsMadeOf source o
+
+-- a text stands for at most one outline
+abbrev pub HasOneReading : Type 0
+HasOneReading = (bytes : List ℕ) (a b : OutlineTable) → StandsFor bytes a → StandsFor bytes b → a ≡ b
+
+-- a text that stands for an outline has no fault
+abbrev pub HasNoFault : Type 0
+HasNoFault = (bytes : List ℕ) (o : OutlineTable) → StandsFor bytes o → first_fault bytes ≡ None
+
+-- a refusal tells the first fault, unless memory ran out
+abbrev pub Tells : List ℕ → FileFault → Type 0
+Tells bytes e = IfSome (told e) (λ f. first_fault bytes ≡ Some f)
