@@ -71,26 +71,28 @@ auxiliary names = do
   a ← new_name names name.Auxiliary
   (expect s.Semicolon >> pure (with_name a name.Auxiliary names))
 
--- what a token begins: the declaration of a location, of a register or of an auxiliary, or none
-abbrev pub by_tests : Bool → Bool → Bool → NameTable → Option (Parser NameTable)
-by_tests true b c names = Some (next >> location names)
-by_tests false true c names = Some (next >> register names)
-by_tests false false true names = Some (next >> auxiliary names)
-by_tests false false false names = None
+-- the declaration of a location, of a register or of an auxiliary, by which of their words comes; or none
+abbrev pub declared_by : Bool → Bool → Bool → NameTable → Parser (Option NameTable)
+declared_by true b c names = (next >> location names) >>= (λ more. pure (Some more))
+declared_by false true c names = (next >> register names) >>= (λ more. pure (Some more))
+declared_by false false true names = (next >> auxiliary names) >>= (λ more. pure (Some more))
+declared_by false false false names = pure None
 
-abbrev pub declaration : NameTable → Lexeme → Option (Parser NameTable)
-declaration names t = by_tests (is_keyword w.Location t) (is_keyword w.Register t) (is_keyword w.Auxiliary t) names
+unfoldable pub declaration : NameTable → Parser (Option NameTable)
+declaration names = do
+  t ← peek
+  declared_by (is_keyword w.Location t) (is_keyword w.Register t) (is_keyword w.Auxiliary t) names
 
-abbrev pub and_more : (NameTable → Parser NameTable) → NameTable → Option (Parser NameTable) → Parser NameTable
-and_more rest names (Some one) = one >>= rest
+abbrev pub and_more : (NameTable → Parser NameTable) → NameTable → Option NameTable → Parser NameTable
 and_more rest names None = pure names
+and_more rest names (Some more) = rest more
 
--- at most n declarations, and as many as there are
+-- as many declarations as there are, in at most n turns
 unfoldable pub declarations_on : ℕ → NameTable → Parser NameTable
 declarations_on zero names = refuse 0 TooMany
 declarations_on (suc n) names = do
-  t ← peek
-  and_more (declarations_on n) names (declaration names t)
+  more ← declaration names
+  and_more (declarations_on n) names more
 
 abbrev pub declarations : NameTable → Parser NameTable
 declarations names = declarations_on MAX_DECLARATIONS names

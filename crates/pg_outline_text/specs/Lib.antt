@@ -2,6 +2,8 @@ pub mod Word
 pub mod Source
 pub mod Declaration
 pub mod Reading
+pub mod Reads
+pub mod Parts
 pub mod Fault
 pub mod Grammar
 pub mod Text

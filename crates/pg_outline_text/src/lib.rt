@@ -1,0 +1,20 @@
+//! Whole texts of outlines: reading one, and printing an outline in its canonical text.
+//!
+//! What the crate promises the layer above: `parse_outline` gives the outline that a text stands for (`specs/Text.antt`, over the
+//! grammar of `specs/Grammar.antt`), and exactly that one; a text that stands for none is refused with its first fault
+//! (`specs/Fault.antt`): of its tokens or its version in the order of the text, then of the program, then of the outline.
+//! `print_outline` gives the canonical text of `specs/Spelling.antt`, which stands for the outline again. The laws in `laws` say that a
+//! text stands for one outline at most, and then has no fault.
+#![tactic(auto)]
+
+mod declaration;
+mod fault;
+mod given;
+
+mod source;
+mod thread;
+mod word;
+
+pub use fault::FileFault;
+
+pub use thread::MAX_THREADS;

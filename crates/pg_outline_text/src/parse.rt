@@ -1,0 +1,1 @@
+//! Whole texts, and the outlines that they stand for.
