@@ -1,4 +1,6 @@
 mod Texts
+pub mod Names
+pub mod Within
 mod Chains
 mod Levels
 mod Begins

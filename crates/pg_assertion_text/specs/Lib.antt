@@ -13,3 +13,4 @@ pub mod Spelling
 pub mod Parts
 pub mod SpellingLaws
 pub mod ReadAgain
+pub mod Within

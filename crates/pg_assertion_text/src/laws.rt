@@ -4,6 +4,7 @@
 ghost use Rattle.pg_assertion_text.specs.Parsing.{HasOneReading};
 ghost use Rattle.pg_assertion_text.specs.SpellingLaws.{SpellingStands, CrashSpellingStands};
 ghost use Rattle.pg_assertion_text.specs.ReadAgain.{FormulasAreReadAgain, CrashFormulasAreReadAgain};
+ghost use Rattle.pg_assertion_text.specs.Within.{FormulasAreWithin, CrashFormulasAreWithin, AssertionsAreWithin};
 
 use crate::atoms::ReadAtom;
 
@@ -32,4 +33,20 @@ pub fn formulas_are_read_again()
 /// A crash formula is read again at any place where it was printed.
 pub fn crash_formulas_are_read_again()
     ensures { CrashFormulasAreReadAgain }
+{}
+
+/// Each formula of an assertion that stands in a text is within the limits of a text: its names are declared, its numbers
+/// are below 2^32, it has few nodes, and its canonical spelling opens no more brackets and `!` at once than may be.
+pub fn formulas_are_within()
+    ensures { FormulasAreWithin }
+{}
+
+/// The same for a crash formula.
+pub fn crash_formulas_are_within()
+    ensures { CrashFormulasAreWithin }
+{}
+
+/// An assertion is within these limits where its formula, as a text has it, is.
+pub fn assertions_are_within()
+    ensures { AssertionsAreWithin }
 {}

@@ -3,6 +3,7 @@
 
 ghost use Rattle.std.specs.Prelude.{◌≡◌, ◌<◌, ◌++◌, [], ◌∷◌, length, decimal, codes, OnOk, OnErr};
 ghost use Rattle.pg_assertion.specs.Formula.{plain, AllAtoms};
+ghost use Rattle.pg_assertion.specs.Atom.{NamesDeclared, CrashDeclared};
 ghost use Rattle.pg_assertion_text.specs.Spelling as spec;
 ghost use Rattle.pg_assertion_text.specs.Parts.{rule};
 ghost use Rattle.pg_assertion_text.specs.ReadAgain.{IsReadAgain, IsCrashReadAgain};
@@ -145,7 +146,7 @@ trait PrintAtom {
 
 impl PrintAtom for ViewAtom {
     ghost use Rattle.pg_assertion_text.specs.Spelling.{spell_atom};
-ghost use Rattle.pg_assertion.specs.Atom.{NamesDeclared};
+    ghost use Rattle.pg_assertion.specs.Atom.{NamesDeclared};
 
     ghost spelled = { spell_atom };
 
@@ -194,7 +195,7 @@ ghost use Rattle.pg_assertion.specs.Atom.{NamesDeclared};
 
 impl PrintAtom for CrashAtom {
     ghost use Rattle.pg_assertion_text.specs.Spelling.{spell_crash};
-ghost use Rattle.pg_assertion.specs.Atom.{CrashDeclared};
+    ghost use Rattle.pg_assertion.specs.Atom.{CrashDeclared};
 
     ghost spelled = { spell_crash };
 
