@@ -22,6 +22,10 @@ at_most conj = omega arith
 at_most disj = omega arith
 at_most formula = omega arith
 
+pub bracket_small : (b : Bool) → bracket b ≤ 1
+bracket_small true = omega arith
+bracket_small false = omega arith
+
 pub each_mapped : {T : Type 0} {P Q : T → Type 0} → ((a : T) → P a → Q a) → (f : Plain T) → AllAtoms P f → AllAtoms Q f
 each_mapped h top each = tt
 each_mapped h bottom each = tt
@@ -75,10 +79,6 @@ module _ {T U : Type 0} (names : NameTable) (IsAtom : Cursor → U → Cursor �
   loosened formula conj n from to f h is = absurd (omega arith)
   loosened formula disj n from to f h is = absurd (omega arith)
   loosened formula formula n from to f h is = is
-
-  above_none : (b : Bool) → bracket b ≤ 1
-  above_none true = omega arith
-  above_none false = omega arith
 
   -- the part's brackets, where it needs some
   part_spells : (loose : Bool) (rule : Rule) (f : Plain T) (n : ℕ)

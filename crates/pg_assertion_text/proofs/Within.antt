@@ -1,5 +1,5 @@
 -- What stands in a text is within the limits of a text.
-use Rattle.std.proofs.Common.{◌≡◌, ℕ, ◌+◌, ◌≤◌, Bool, true, false, refl, sym, ap, ap₂, subst, arith}
+use Rattle.std.proofs.Common.{◌≡◌, ℕ, ◌+◌, ◌≤◌, refl, sym, ap, ap₂, subst, arith}
 use Rattle.std.specs.Prelude.{max}
 use Rattle.pg_lex.specs.Lex.{Cursor}
 use Rattle.pg_program.specs.NameTable.{NameTable, IsNameTable}
@@ -19,13 +19,9 @@ use Rattle.pg_assertion_text.specs.SpellingLaws.{IsWritable, IsWritableCrash}
 use Rattle.pg_assertion_text.specs.ReadAgain.{IsWhole}
 use Rattle.pg_assertion_text.specs.Within.{IsWritableRaw, IsWithin, FormulasAreWithin, CrashFormulasAreWithin, AssertionsAreWithin}
 use Rattle.pg_assertion_text.proofs.Names.{items_fit}
-use Rattle.pg_assertion_text.proofs.Spelling.{nodes-with_atoms}
+use Rattle.pg_assertion_text.proofs.Spelling.{bracket_small, nodes-with_atoms}
 
 -- ---- levels
-
-bracket_small : (b : Bool) → bracket b ≤ 1
-bracket_small true = omega arith
-bracket_small false = omega arith
 
 -- a looser rule needs no more brackets
 below_conj : {T : Type 0} (f : Plain T) → bracket (is_loose conj f) ≤ bracket (is_loose unary f)

@@ -7,9 +7,9 @@
 //! canonical spelling (`specs/Spelling.antt`), with brackets just where the formula would be read otherwise; want of
 //! memory leaves the text as it was, and reading what was printed gives the formula again. The laws in `laws` say of the
 //! definitions that a place of a text has one reading at most, and that a spelling is in the grammar and is read again
-//! wherever it stands. They also say that each formula that stands in a text is within the limits that reading again asks
-//! for, so that whatever was read can be printed and read again. Readers of other phrases are made of `Tokens`, a place in a text with how many nodes may still
-//! come, and its steps; each step answers by a definition in `specs/Input.antt`.
+//! wherever it stands; and that each formula that stands in a text is within the limits that reading again asks for, so
+//! that whatever was read can be printed and read again. Readers of other phrases are made of `Tokens`, a place in a text
+//! with how many nodes may still come, and its steps; each step answers by a definition in `specs/Input.antt`.
 #![tactic(auto)]
 
 mod atoms;

@@ -18,4 +18,6 @@ mod SpellingLines
 mod SpellingStmts
 mod SpellingThreads
 mod Again
+mod Bodies
 mod Declared
+mod Whole

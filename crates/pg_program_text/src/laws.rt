@@ -2,7 +2,7 @@
 //! the law.
 
 ghost use Rattle.pg_program_text.specs.Text.{HasOneReading};
-ghost use Rattle.pg_program_text.specs.BodyLaws.{BodiesAreThreads};
+ghost use Rattle.pg_program_text.specs.BodyLaws.{BodiesAreThreads, BodiesAreWhole, TextsSpeakOfNames};
 ghost use Rattle.pg_program_text.specs.SpellingLaws.{ExpressionsStand, ThreadsStand};
 ghost use Rattle.pg_program_text.specs.ReadAgain.{ThreadsAreReadAgain};
 
@@ -15,6 +15,17 @@ pub fn a_body_has_one_reading()
 /// note.
 pub fn bodies_are_threads()
     ensures { BodiesAreThreads }
+{}
+
+/// Over names of the grammar a body is within the limits of a text, with the assertions that its notes stand for: its
+/// expressions, brackets and blocks are, and each note.
+pub fn bodies_are_whole()
+    ensures { BodiesAreWhole }
+{}
+
+/// The notes of a body speak of declared names alone, and have no more nodes than a formula may.
+pub fn texts_speak_of_names()
+    ensures { TextsSpeakOfNames }
 {}
 
 /// The spelling of an expression is an expression of the grammar, and stands for that expression: where the declared names

@@ -6,8 +6,9 @@
 //! of the text, and the lexer stays where it stood. `print_thread` appends the canonical text (`specs/Spelling.antt`), a line for
 //! each note and each statement; want of memory leaves the text as it was, and reading what was printed gives the thread again.
 //! The laws in `laws` say of the definitions that a place of a text has one body at most, and that the canonical text is in the
-//! grammar and is read again wherever it stands. A `ThreadText` holds the statements, blocks nested in them, and apart from them
-//! the notes of the points in the order of the text.
+//! grammar and is read again wherever it stands; and that each body that stands in a text is within the limits that reading
+//! again asks for, so that whatever was read can be printed and read again. A `ThreadText` holds the statements, blocks nested in
+//! them, and apart from them the notes of the points in the order of the text.
 #![tactic(auto)]
 
 mod expr;
