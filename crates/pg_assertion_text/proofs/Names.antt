@@ -3,7 +3,6 @@ use Rattle.std.proofs.Common.{◌≡◌, ℕ, ◌+◌, ◌<◌, ◌^◌, Bool, t
 use Rattle.std.specs.Prelude.{Option, option_map}
 use Rattle.std.specs.Str.{bytes_eq}
 use Rattle.pg_lex.specs.declared.token.TokenKind.{TokenKind}
-use Rattle.pg_lex.specs.declared.token.TokenKind.TheVariants as kind
 use Rattle.pg_lex.specs.Lex.{Cursor, after}
 use Rattle.pg_lex.specs.Grammar.{IsToken}
 use Rattle.pg_lex.proofs.Cursors.{munches_most}

@@ -1,5 +1,5 @@
 -- What stands in a text is within the limits of a text: the canonical spelling of a formula that was read is read again.
-use Rattle.std.specs.Prelude.{◌≡◌, ℕ, ◌^◌, ◌<◌, ◌≤◌}
+use Rattle.std.specs.Prelude.{◌≡◌, ◌^◌, ◌<◌, ◌≤◌}
 use Rattle.pg_lex.specs.Lex.{Cursor}
 use Rattle.pg_program.specs.NameTable.{NameTable}
 use Rattle.pg_assertion.specs.declared.atom.ViewAtom.{ViewAtom}

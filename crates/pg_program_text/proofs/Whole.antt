@@ -1,5 +1,5 @@
 -- The statements and notes of a body are within the limits of a text.
-use Rattle.std.proofs.Common.{◌≡◌, ℕ, suc, ◌+◌, ◌<◌, ◌≤◌, Bool, true, false, List, [], ◌∷◌, length, map, refl, sym, ap, subst, ◌∙◌, arith}
+use Rattle.std.proofs.Common.{◌≡◌, ℕ, ◌+◌, ◌≤◌, Bool, true, false, List, [], ◌∷◌, length, map, refl, sym, ap, subst, ◌∙◌, arith}
 use Rattle.std.specs.List.{All}
 use Rattle.std.proofs.lemmas.List.{length-map}
 use Rattle.std.proofs.lemmas.List.Elements.{All-nil, All-cons, All-head, All-tail, All-weaker}
@@ -37,7 +37,7 @@ use Rattle.pg_program_text.specs.Grammar as g
 use Rattle.pg_program_text.specs.Grammar.{IsAct, IsExpr, IsAssignment, AreAssignments, IsBracket, IsTest}
 use Rattle.pg_program_text.specs.Spelling.{Tree, number, name, sum, difference, product, tree, tree_step, is_sum, is_binary, opens, nodes, Declared, NumbersFit}
 use Rattle.pg_program_text.specs.SpellingLaws.{IsWritable, WholeExpr, WholeTest, WholeAct, WholeAssignment, WholeStmt}
-use Rattle.pg_program_text.specs.BodyLaws.{BodiesAreWhole, SpeakOfNames, TextsSpeakOfNames}
+use Rattle.pg_program_text.specs.BodyLaws.{BodiesAreWhole, TextsSpeakOfNames}
 use Rattle.pg_program_text.proofs.Bodies.{IsSimple, act_simple, opened, opened_if, opened_while, Meets, body_points}
 
 -- ---- expressions
