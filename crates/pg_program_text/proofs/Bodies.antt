@@ -1,5 +1,5 @@
--- The statements of a body: what the grammar says of one holds of each, the body has a note for each of their points, each
--- note is within the limits, and few blocks are open at once.
+-- The statements of a body by the grammar: a fact that holds of each kind of statement holds of all, the body has a note
+-- for each of their points, each note is within the limits, and few blocks are open at once.
 use Rattle.std.proofs.Common.{◌≡◌, ℕ, ◌+◌, ◌-◌, ◌≤◌, Bool, true, false, List, [], ◌∷◌, ◌++◌, length, refl, sym, ap, subst, ◌∙◌, arith}
 use Rattle.std.specs.Prelude.{max, if◌then◌else◌}
 use Rattle.std.specs.List.{All}
@@ -96,7 +96,7 @@ split_while c a = let is = opened_while c a in split_bare (act.While c a) a [] (
 
 -- ---- how deep blocks nest
 
--- of a part in which at most n blocks are open at once, so many are within a statement's own
+-- what the nesting k of a part's statements is at most, where n blocks may be open: a block is one of them itself
 abbrev Low : Part → ℕ → ℕ → Type 0
 Low g.stmt n k = k ≤ n
 Low g.lines n k = k ≤ n
@@ -143,7 +143,7 @@ pub record Body (names : NameTable) (P : Stmt → Type 0) (b : Block) (ns : Note
   pub low : nesting b ≤ MAX_BLOCKS
   pub notes : All (IsWithin IsWritableRaw names) ns
 
--- the fact holds of each statement of the grammar
+-- the fact holds of each kind of statement, whatever is in its blocks
 pub record Meets (names : NameTable) (P : Stmt → Type 0) : Type 0 where
   pub simple : (a : Act) (b : List AuxAssign) (from mid end : Cursor) → IsAct names from a mid → IsBracket names mid b end → P (roll-Stmt (record { act = a; aux = b }))
   pub if_is : (c : Cond) (a b : List Stmt) (from to : Cursor) → IsTest names from c to → P (bare (act.If c a b))
