@@ -2,55 +2,59 @@
 -- outline.
 use Rattle.std.specs.Prelude.{◌≡◌, ℕ, ◌==◌, if◌then◌else◌, List, Option, Some, None, option_map, Result, Ok, Err}
 use Rattle.pg_lex.specs.declared.fault.TextFault.{TextFault}
+use Rattle.pg_lex.specs.declared.fault.TextFault.TheVariants.{At, NoMemory as text_no_memory}
 use Rattle.pg_program.specs.Fault as program
 use Rattle.pg_outline.specs.declared.fault.OutlineFault.{OutlineFault}
-use Rattle.pg_outline.specs.declared.fault.OutlineFault.TheVariants as outline_fault
 use Rattle.pg_outline.specs.Fault as outline
 use Rattle.pg_assertion_text.specs.Input.{Outcome}
 use Rattle.pg_outline_text.specs.declared.fault.FileFault.{FileFault}
 use Rattle.pg_outline_text.specs.declared.fault.FileFault.TheVariants.{Text, Version, Program, Outline, NoMemory}
+use Rattle.pg_outline_text.specs.declared.parse.TheConstants.{VERSION}
 use Rattle.pg_outline_text.specs.Source.{Source, program_of, draft}
-use Rattle.pg_outline_text.specs.Reading.{version, outline, whole}
+use Rattle.pg_outline_text.specs.Reading.{version, whole}
+use Rattle.pg_outline_text.specs.Reading as reading
 
 -- a fault with what it keeps, where a name is its bytes
 pub data Fault : Type 0 where
-  text : TextFault → Fault
+  of_text : TextFault → Fault
   other_version : ℕ → Fault
-  program : program.Fault → Fault
-  outline : OutlineFault → Fault
+  of_program : program.Fault → Fault
+  of_outline : OutlineFault → Fault
 
 -- the fault that an answer tells, if it is one of the file
 abbrev pub told : FileFault → Option Fault
-told (Text f) = Some (text f)
+told (Text f) = Some (of_text f)
 told (Version n) = Some (other_version n)
-told (Program f) = option_map program (program.told f)
-told (Outline f) = Some (outline f)
+told (Program f) = option_map of_program (program.told f)
+told (Outline f) = Some (of_outline f)
 told NoMemory = None
 
--- the version that this reader knows
-abbrev pub known_version : ℕ
-known_version = 1
+-- a fault of the tokens is one of the file; want of memory is none
+abbrev pub text_told : TextFault → Option Fault
+text_told (At place kind) = Some (of_text (At place kind))
+text_told text_no_memory = None
 
 abbrev pub source_in : Outcome Source → Result Source Fault
 source_in (Ok p) = Ok p.0
-source_in (Err f) = Err (text f)
+source_in (Err f) = Err (of_text f)
 
 -- no token behind another version is looked at
 abbrev pub behind_version : Outcome ℕ → Result Source Fault
-behind_version (Ok p) = if p.0 == known_version then source_in (Reading.outline p.1) else Err (other_version p.0)
-behind_version (Err f) = Err (text f)
+behind_version (Ok p) = if p.0 == VERSION then source_in (reading.outline p.1) else Err (other_version p.0)
+behind_version (Err f) = Err (of_text f)
 
 -- what a text is read as, or its first fault
 unfoldable pub source_of : List ℕ → Result Source Fault
 source_of bytes = behind_version (version (whole bytes))
 
+-- the first of two faults
+abbrev pub first_of : Option Fault → Option Fault → Option Fault
+first_of (Some f) g = Some f
+first_of None g = g
+
 -- the first fault of what was read
 abbrev pub fault_in : Source → Option Fault
-fault_in s = first_of (option_map program (program.first_fault s.names (program_of s).threads)) (option_map outline (outline.first_fault (draft s)))
-  where
-    first_of : Option Fault → Option Fault → Option Fault
-    first_of (Some f) g = Some f
-    first_of None g = g
+fault_in s = first_of (option_map of_program (program.first_fault s.names (program_of s).threads)) (option_map of_outline (outline.first_fault (draft s)))
 
 abbrev pub fault_of : Result Source Fault → Option Fault
 fault_of (Ok s) = fault_in s

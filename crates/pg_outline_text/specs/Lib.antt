@@ -5,5 +5,8 @@ pub mod Reading
 pub mod Reads
 pub mod Parts
 pub mod Fault
+pub mod Ready
 pub mod Grammar
 pub mod Text
+pub mod Spelling
+pub mod SpellingLaws

@@ -10,11 +10,11 @@
 mod declaration;
 mod fault;
 mod given;
-
+mod parse;
 mod source;
 mod thread;
 mod word;
 
 pub use fault::FileFault;
-
+pub use parse::{VERSION, parse_outline};
 pub use thread::MAX_THREADS;

@@ -2,7 +2,7 @@
 
 ghost use Rattle.std.specs.Prelude.{◌≡◌};
 ghost use Rattle.pg_assertion_text.specs.Input.{Does, Reads};
-ghost use Rattle.pg_outline_text.specs.Parts.{source};
+ghost use Rattle.pg_outline_text.specs.Parts.{as_source};
 ghost use Rattle.pg_outline_text.specs.Reading as spec;
 
 use crate::declaration::{declarations, last_number};
@@ -46,7 +46,7 @@ fn domain(tokens: &mut Tokens<'_>) -> Result<u32, TextFault>
 /// What stands behind the declarations of these names.
 #[tactic(auto, unfolding(crate::specs::Reading::outline_over))]
 fn source_over(alloc: Global, tokens: &mut Tokens<'_>, names: Names) -> Result<Source, TextFault>
-    ensures { Reads source (spec.outline_over names tokens.old) result tokens.new }
+    ensures { Reads as_source (spec.outline_over names tokens.old) result tokens.new }
 {
     let pre = precondition(alloc, tokens, &names)?;
     let crash = crash_formula(alloc, tokens, &names)?;
@@ -61,8 +61,8 @@ fn source_over(alloc: Global, tokens: &mut Tokens<'_>, names: Names) -> Result<S
 
 /// What stands behind the version.
 #[tactic(auto, unfolding(crate::specs::Reading::outline))]
-pub fn source(alloc: Global, tokens: &mut Tokens<'_>) -> Result<Source, TextFault>
-    ensures { Reads source (spec.outline tokens.old) result tokens.new }
+pub fn behind_version(alloc: Global, tokens: &mut Tokens<'_>) -> Result<Source, TextFault>
+    ensures { Reads as_source (spec.outline tokens.old) result tokens.new }
 {
     tokens.expect(Sign::Semicolon)?;
     let domain = domain(tokens)?;

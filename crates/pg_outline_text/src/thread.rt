@@ -31,12 +31,12 @@ fn opened(tokens: &mut Tokens<'_>) -> Result<(), TextFault>
 
 /// The number that this thread has to have.
 #[tactic(auto, unfolding(crate::specs::Reading::own_number))]
-fn own_number(tokens: &mut Tokens<'_>, number: u32) -> Result<(), TextFault>
+fn own_number(tokens: &mut Tokens<'_>, number: u64) -> Result<(), TextFault>
     ensures { Does (λ u. u) (spec.own_number number tokens.old) result tokens.new }
 {
     let token = tokens.next()?;
     match token.kind {
-        TokenKind::Number(n) if n == number => Ok(()),
+        TokenKind::Number(n) if u64::from(n) == number => Ok(()),
         _ => Err(unexpected(token.place)),
     }
 }
@@ -47,7 +47,7 @@ fn thread(
     alloc: Global,
     tokens: &mut Tokens<'_>,
     names: &Names,
-    number: u32,
+    number: u64,
 ) -> Result<ThreadText, TextFault>
     ensures { Reads lines (spec.thread names.now number tokens.old) result tokens.new }
 {
@@ -79,7 +79,7 @@ pub fn threads(
 {
     let mut found = Vec::new(alloc);
     'threads: for i in 0..tokens.turns() {
-        let text = thread(alloc, tokens, names, i as u32 + 1)?;
+        let text = thread(alloc, tokens, names, i + 1)?;
         found.push(text)?;
         let token = tokens.peek()?;
         if is_end(token.kind) {

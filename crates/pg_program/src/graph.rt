@@ -113,7 +113,8 @@ impl Program {
         nth(self.thread(at.thread), at.point - 1)
     }
 
-    fn thread(&self, thread: u8) -> &[Stmt]
+    /// The statements of a thread, those of its blocks inside them.
+    pub fn thread(&self, thread: u8) -> &[Stmt]
         requires { (1 ≤ thread) × (thread ≤ length self.now.threads) }
         ensures stmts { result.now ≡ thread_of self.now thread }
         ensures short { size (block result.now) < 32 }
