@@ -1,5 +1,6 @@
-pub mod Answer
+pub mod Line
 pub mod Outcome
+pub mod Safety
+pub mod Answer
 pub mod Put
 pub mod Run
-pub mod Safety

@@ -5,7 +5,8 @@ use Rattle.std.specs.declared.alloc.Global.{Global}
 use Rattle.pg_io.specs.Counts.{Rose, RoseBy}
 use Rattle.pg_io.specs.Told.{IsTold, IsTooLong}
 use Rattle.pg_io.specs.Written.{appended, AppendsPart}
-use Rattle.pg_app.specs.Answer.{longest_file, usage, too_long, Answers, Defined}
+use Rattle.pg_app.specs.Line.{usage, too_long}
+use Rattle.pg_app.specs.Answer.{longest_file, Answers, Defined}
 use Rattle.pg_app.specs.Put.{Puts}
 
 -- the statuses of the program

@@ -1,49 +1,46 @@
-//! Judging the bytes of a file. What is promised is that an outcome is the file's own: accepted
-//! where its bytes stand for an outline each of whose obligations follows, rejected with the first
-//! that does not, and not of the form where they stand for none.
+//! Judging an outline. What is promised is that an outcome is the outline's own: accepted where each of its obligations follows,
+//! rejected with the first that does not, and not judged yet where it has not the first form.
 
-ghost use Rattle.std.specs.Prelude.{◌≤◌, ℕ, IsSome, IfOk, List, length};
+ghost use Rattle.std.specs.Prelude.{◌≡◌, IfOk, IsSome};
 ghost use Rattle.pg_program.specs.Straight.{straight};
+ghost use Rattle.pg_judge.specs.Meaning.{outline};
 ghost use Rattle.pg_judge.specs.Path.{path, IsPath};
-ghost use Rattle.pg_path_text.specs.Form.{StandsFor};
-ghost use Rattle.pg_path_text.specs.Outline.{source};
-ghost use Rattle.pg_app.specs.Answer.{longest_file};
-ghost use Rattle.pg_app.specs.Outcome.{IsOutcome};
+ghost use Rattle.pg_app.specs.Outcome.{IsOutcome, IsPrintable};
 
-use pg_judge::{PathJudgement, PathOutline, check_path};
-use pg_path_text::{PathFault, read_path};
+use pg_judge::{PathJudgement, PathOutline, check_path, path_of};
+use pg_outline::Outline;
 use std::alloc::{AllocError, Global};
 
-/// What a file's bytes are judged as.
+/// What an outline is judged as.
 #[derive(Clone, Copy, Debug, PartialEq, Eq)]
 pub enum Outcome {
     /// All obligations follow, and there are this many.
     Accepted { count: u32 },
     /// The first obligation that does not follow, by its number from 1.
     Rejected { i: u32 },
-    /// The bytes stand for no outline.
-    NotOfForm,
+    /// The outline has not the first form.
+    NotYet,
 }
 
-/// Judges the bytes of a file.
-pub fn judged(alloc: Global, text: &[u8]) -> Result<Outcome, AllocError>
-    requires { length text.now ≤ longest_file }
-    ensures { IfOk result (IsOutcome text.now) }
+/// Judges an outline.
+pub fn judged(alloc: Global, outline: &Outline) -> Result<Outcome, AllocError>
+    ensures outcome { IfOk result (IsOutcome outline.now) }
+    ensures printable { IfOk result IsPrintable }
 {
-    match read_path(alloc, text) {
-        Ok(outline) => judged_outline(alloc, &outline),
-        Err(PathFault::Form) => Ok(Outcome::NotOfForm),
-        Err(PathFault::NoMemory) => Err(AllocError),
+    match path_of(alloc, outline)? {
+        Some(path) => judged_path(alloc, &path),
+        None => Ok(Outcome::NotYet),
     }
 }
 
-// Judges an outline, whatever text it is of.
-fn judged_outline(alloc: Global, outline: &PathOutline) -> Result<Outcome, AllocError>
-    requires path { IsPath (path outline.now) }
-    requires stores { IsSome (straight outline.now.program.threads) }
-    ensures { IfOk result (λ outcome. (text : List ℕ) → StandsFor text (source outline.now) → IsOutcome text outcome) }
+/// Judges an outline of the first form, by its path.
+fn judged_path(alloc: Global, o: &PathOutline<'_>) -> Result<Outcome, AllocError>
+    requires path { IsPath (path o.now) }
+    requires stores { IsSome (straight o.now.program.now.threads) }
+    ensures outcome { IfOk result (IsOutcome (outline o.now)) }
+    ensures printable { IfOk result IsPrintable }
 {
-    Ok(match check_path(alloc, outline)? {
+    Ok(match check_path(alloc, o)? {
         PathJudgement::Accepted { count } => Outcome::Accepted { count },
         PathJudgement::Rejected { i } => Outcome::Rejected { i },
     })

@@ -2,7 +2,7 @@
 
 ghost use Rattle.std.specs.Prelude.{◌≡◌, ◌++◌, ◌<◌, ◌≤◌, IfOk, OnOk, decimal};
 ghost use Rattle.pg_judge.specs.Path.{kind};
-ghost use Rattle.pg_app.specs.Answer.{accepted, kind_text, rejected, refused, too_long};
+ghost use Rattle.pg_app.specs.Line.{accepted, kind_text, rejected, not_yet, too_long};
 ghost use Rattle.pg_app.specs.Outcome.{IsNumber, IsPrintable, line_of};
 
 use crate::judge::Outcome;
@@ -18,7 +18,7 @@ pub fn outcome_line(alloc: Global, outcome: Outcome) -> Result<Vec<u8>, AllocErr
     match outcome {
         Outcome::Accepted { count } => accepted_line(alloc, count),
         Outcome::Rejected { i } => rejected_line(alloc, i),
-        Outcome::NotOfForm => Vec::from_slice(alloc, b"refused form\n"),
+        Outcome::NotYet => Vec::from_slice(alloc, b"refused not yet\n"),
     }
 }
 

@@ -7,7 +7,9 @@
 ghost use Rattle.std.specs.Prelude.{◌≡◌, ◌≢◌, ◌⊎◌, ◌+◌, ◌≤◌, ℕ, List, length, Some, IsSome, IsNone, IsSomeAnd, IfSome, IfNone, IfOk, Contains};
 ghost use Rattle.pg_io.specs.Counts.{Rose, RoseBy};
 ghost use Rattle.pg_io.specs.Written.{appended};
-ghost use Rattle.pg_app.specs.Answer.{longest_file, usage, too_long, name_of, Answers};
+ghost use Rattle.pg_app.specs.Line.{usage, too_long};
+ghost use Rattle.pg_app.specs.Answer.{longest_file, name_of, Answers};
+ghost use Rattle.pg_outline_text.specs.Text.{StandsFor, Tells};
 ghost use Rattle.pg_app.specs.Outcome.{status_of};
 ghost use Rattle.pg_app.specs.Put.{Puts};
 ghost use Rattle.pg_app.specs.Safety.{IsSafeText};
@@ -20,6 +22,9 @@ use crate::status::{
 };
 use crate::words::checked_name;
 use pg_io::{Room, RoomFault, Sink, SinkFault};
+use pg_outline::Outline;
+use pg_outline_text::{FileFault, parse_outline};
+use pg_report::{ReportFault, report_file_fault};
 use std::alloc::{AllocError, Global};
 
 // The most bytes that a file may have.
@@ -93,18 +98,28 @@ fn answer<K: Sink>(alloc: Global, bytes: &[u8], out: &mut K) -> u8
     ensures { Puts (Answers bytes.now)
         result (K.written out.old) (K.written out.new) (K.faults out.old) (K.faults out.new) }
 {
-    match judged_line(alloc, bytes) {
+    match parse_outline(alloc, bytes) {
+        Ok(outline) => answer_outline(alloc, &outline, out),
+        Err(fault) => answer_fault(alloc, &fault, out),
+    }
+}
+
+// Answers a file that stands for this outline.
+fn answer_outline<K: Sink>(alloc: Global, outline: &Outline, out: &mut K) -> u8
+    ensures { (bytes : List ℕ) → StandsFor bytes outline.now → Puts (Answers bytes)
+        result (K.written out.old) (K.written out.new) (K.faults out.old) (K.faults out.new) }
+{
+    match judged_line(alloc, outline) {
         Ok((status, line)) => finish(out, status, line.as_slice()),
         Err(_) => NO_MEMORY,
     }
 }
 
-// The status and the line of a file of these bytes.
-fn judged_line(alloc: Global, bytes: &[u8]) -> Result<(u8, Vec<u8>), AllocError>
-    requires { length bytes.now ≤ longest_file }
-    ensures { IfOk result (λ answer. Answers bytes.now answer.0 answer.1.items) }
+// The status and the line of an outline.
+fn judged_line(alloc: Global, outline: &Outline) -> Result<(u8, Vec<u8>), AllocError>
+    ensures { IfOk result (λ answer. (bytes : List ℕ) → StandsFor bytes outline.now → Answers bytes answer.0 answer.1.items) }
 {
-    let outcome = judged(alloc, bytes)?;
+    let outcome = judged(alloc, outline)?;
     let line = outcome_line(alloc, outcome)?;
     Ok((outcome_status(outcome), line))
 }
@@ -116,7 +131,22 @@ fn outcome_status(outcome: Outcome) -> u8
     match outcome {
         Outcome::Accepted { .. } => ACCEPTED,
         Outcome::Rejected { .. } => REJECTED,
-        Outcome::NotOfForm => REFUSED,
+        Outcome::NotYet => REFUSED,
+    }
+}
+
+// Answers a file with this first fault.
+fn answer_fault<K: Sink>(alloc: Global, fault: &FileFault, out: &mut K) -> u8
+    ensures { (bytes : List ℕ) → Tells bytes fault.now → Puts (Answers bytes)
+        result (K.written out.old) (K.written out.new) (K.faults out.old) (K.faults out.new) }
+{
+    if matches!(fault, FileFault::NoMemory) {
+        return NO_MEMORY;
+    }
+    match report_file_fault(alloc, fault, out) {
+        Ok(()) => REFUSED,
+        Err(ReportFault::Write) => NOT_WRITTEN,
+        Err(ReportFault::NoMemory) => NO_MEMORY,
     }
 }
 
