@@ -2,3 +2,8 @@ pub mod Below
 pub mod Found
 pub mod Loads
 pub mod CrashFaults
+pub mod Filled
+pub mod CrashLaw
+pub mod Nested
+pub mod Readable
+pub mod Axioms

@@ -4,3 +4,6 @@ pub mod Crash
 pub mod Execution
 pub mod Fault
 pub mod Parts
+pub mod CrashLaw
+pub mod Laws
+pub mod Axioms
