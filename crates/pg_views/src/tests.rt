@@ -1,9 +1,10 @@
 //! What holds in small states of a program of two threads, and what a crash may leave of them, worked out by hand.
 
 ghost use Rattle.std.specs.Prelude.{◌≡◌, ◌<◌, ◌^◌, length, IfOk};
-ghost use Rattle.pg_assertion.specs.Layout.{sizes};
+ghost use Rattle.pg_assertion.specs.Formula.{plain, AllAtoms};
 ghost use Rattle.pg_machine.specs.State.{IsWellFormed};
 ghost use Rattle.pg_machine.specs.Plain.{IsPlain, ArePlain};
+ghost use Rattle.pg_views.specs.Formula.{IsCrashAtom};
 
 use crate::atom::holds_atom;
 use crate::crashes::crash;
@@ -102,32 +103,58 @@ fn two_loads(alloc: Global) -> Result<Program, Fail> {
     program(alloc, stores, loads)
 }
 
-/// Takes a step, and tells the fault where there is one.
-fn fault(state: &mut State, p: &Program, thread: u32, choice: Option<u32>) -> Option<StepFault>
+/// A thread, the position that it chooses, and the fault that is wanted.
+type Line = (u32, Option<u32>, Option<StepFault>);
+
+/// Takes the lines one after the other, and tells whether each has the fault that is wanted.
+fn follows(state: &mut State, p: &Program, lines: &[Line]) -> bool
     requires { IsWellFormed p.now state.old.state }
     ensures { IsWellFormed p.now state.new.state }
 {
-    match state.step(p, Event { thread, choice }) {
-        Ok(()) => None,
-        Err(fault) => Some(fault),
+    let mut all = true;
+    for (thread, choice, wanted) in lines {
+        let event = Event {
+            thread: *thread,
+            choice: *choice,
+        };
+        let told = match state.step(p, event) {
+            Ok(()) => None,
+            Err(fault) => Some(fault),
+        };
+        all = all && told == *wanted;
     }
+    all
 }
+
+/// A load that would go back.
+const BACK: [Line; 3] = [
+    (1, None, None),
+    (2, Some(1), None),
+    (
+        2,
+        Some(0),
+        Some(StepFault::BelowCoherence {
+            position: 0,
+            coh: 1,
+        }),
+    ),
+];
 
 #[test]
 fn a_load_goes_not_back(rt: HostRuntime) -> Result<(), Fail> {
     let alloc = rt.alloc();
     let p = two_loads(alloc)?;
     let mut state = State::fresh(alloc, &p)?;
-    state.reserve(1)?;
-    assert_eq!(rt; fault(&mut state, &p, 1, None), None);
-    assert_eq!(rt; fault(&mut state, &p, 2, Some(1)), None);
-    let below = StepFault::BelowCoherence {
-        position: 0,
-        coh: 1,
-    };
-    assert_eq!(rt; fault(&mut state, &p, 2, Some(0)), Some(below));
+    assert!(rt; follows(&mut state, &p, &BACK));
     Ok(())
 }
+
+/// The sender up to its flush, its last store, and the receiver.
+const FLUSHES: [Line; 2] = [(1, None, None), (1, None, None)];
+
+const SENDS: [Line; 1] = [(1, None, None)];
+
+const RECEIVES: [Line; 2] = [(2, Some(2), None), (2, None, None)];
 
 /// The message is sent: position 1 has x = 1, which is flushed, and position 2 has y = 1. The receiver has seen nothing.
 const SENT: [ViewAtom; 42] = [
@@ -385,13 +412,10 @@ fn atoms_hold(rt: HostRuntime) -> Result<(), Fail> {
     let alloc = rt.alloc();
     let p = message(alloc)?;
     let mut state = State::fresh(alloc, &p)?;
-    state.reserve(2)?;
-    assert_eq!(rt; fault(&mut state, &p, 1, None), None);
-    assert_eq!(rt; fault(&mut state, &p, 1, None), None);
-    assert_eq!(rt; fault(&mut state, &p, 1, None), None);
+    assert!(rt; follows(&mut state, &p, &FLUSHES));
+    assert!(rt; follows(&mut state, &p, &SENDS));
     assert!(rt; hold_alone(&state, &p, &SENT));
-    assert_eq!(rt; fault(&mut state, &p, 2, Some(2)), None);
-    assert_eq!(rt; fault(&mut state, &p, 2, None), None);
+    assert!(rt; follows(&mut state, &p, &RECEIVES));
     assert!(rt; hold_alone(&state, &p, &RECEIVED));
     Ok(())
 }
@@ -440,28 +464,42 @@ fn are_refused(alloc: Global, s: &State, p: &Program, lines: &[([u32; 2], CrashF
     all
 }
 
+/// `y = 1 -> x = 1`
+fn y_after_x(alloc: Global) -> Result<Formula<CrashAtom>, Fail>
+    ensures { IfOk result (λ f. AllAtoms (IsCrashAtom 2 2) (plain f)) }
+{
+    let x = Formula::Atom(CrashAtom::Location { x: 0, v: 1 });
+    let y = Formula::Atom(CrashAtom::Location { x: 1, v: 1 });
+    Ok(Formula::implies(alloc, y, x)?)
+}
+
 #[test]
-fn crashes_leave_memories(rt: HostRuntime) -> Result<(), Fail> {
+fn crashes_have_faults(rt: HostRuntime) -> Result<(), Fail> {
     let alloc = rt.alloc();
     let p = message(alloc)?;
     let mut state = State::fresh(alloc, &p)?;
-    assert_eq!(rt; fault(&mut state, &p, 1, None), None);
-    assert_eq!(rt; fault(&mut state, &p, 1, None), None);
+    assert!(rt; follows(&mut state, &p, &FLUSHES));
     assert!(rt; are_refused(alloc, &state, &p, &REFUSED));
     let short = CrashFault::WrongLength {
         given: 1,
         wanted: 2,
     };
     assert_eq!(rt; refusal(alloc, &state, &p, &[1]), Some(short));
-    assert_eq!(rt; fault(&mut state, &p, 1, None), None);
+    Ok(())
+}
+
+#[test]
+fn crashes_leave_memories(rt: HostRuntime) -> Result<(), Fail> {
+    let alloc = rt.alloc();
+    let p = message(alloc)?;
+    let mut state = State::fresh(alloc, &p)?;
+    assert!(rt; follows(&mut state, &p, &FLUSHES));
+    assert!(rt; follows(&mut state, &p, &SENDS));
     let memory = crash(alloc, &state, &p, &[1, 0])?;
     assert_eq!(rt; memory.value(0), 1);
     assert_eq!(rt; memory.value(1), 0);
-    let x = Formula::Atom(CrashAtom::Location { x: 0, v: 1 });
-    let y = Formula::Atom(CrashAtom::Location { x: 1, v: 1 });
-    let follows = Formula::implies(alloc, y, x)?;
-    assert!(rt; holds_crash(&memory, state.scalars(), &follows));
-    let kept = Formula::not(alloc, Formula::Atom(ViewAtom::Persist { x: 0, v: 0 }))?;
-    assert!(rt; holds(&state, &p, &kept));
+    assert!(rt; holds_crash(&memory, &[0, 0], &y_after_x(alloc)?));
+    let persists = Formula::Atom(ViewAtom::Persist { x: 0, v: 1 });
+    assert!(rt; holds(&state, &p, &persists));
     Ok(())
 }

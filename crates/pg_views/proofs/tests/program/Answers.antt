@@ -1,4 +1,4 @@
-use Rattle.std.proofs.Common.{◌≡◌, List, [], ◌∷◌, map, Vec, Global, sym, subst, arith}
+use Rattle.std.proofs.Common.{List, [], ◌∷◌, map, Vec, Global, sym, subst, arith}
 use Rattle.std.proofs.lemmas.List.Elements.{All-nil, All-cons}
 use Rattle.pg_program.specs.declared.syntax.Stmt.{Stmt}
 use Rattle.pg_program.specs.NameTable.{NameTable}
