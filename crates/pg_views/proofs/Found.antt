@@ -1,7 +1,8 @@
 -- What is found thread by thread, and location by location.
 use Rattle.std.proofs.Common.{◌≡◌, ℕ, suc, ◌+◌, ◌-◌, ◌<◌, max, List, [], ◌∷◌, length, map, drop, get_or, refl, sym, ap, ◌∙◌, arith}
 use Rattle.std.proofs.lemmas.List.{length-map, get_or-map}
-use Rattle.pg_machine.specs.State.{Views, State, greatest, vpc_of}
+use Rattle.pg_program.specs.Program.{ProgramTable}
+use Rattle.pg_machine.specs.State.{Views, State, IsWellFormed, greatest, vpc_of}
 use Rattle.pg_machine.specs.Memory.{Memory}
 use Rattle.pg_machine.specs.Step.{views_of}
 use Rattle.pg_machine.proofs.Scan.{greatest-next}
@@ -25,3 +26,7 @@ committed-next s x m t k lt e =
 pub values_at-length : (m : Memory) (x : ℕ) (ps : List ℕ) → length (values_at m x ps) ≡ length ps
 values_at-length m x [] = refl
 values_at-length m x (p ∷ ps) = ap suc (values_at-length m (suc x) ps)
+
+-- there is a value of each location
+pub locations-count : (p : ProgramTable) (s : State) → IsWellFormed p s → length s.memory.initial ≡ length p.names.locations
+locations-count p s h = ap length h.memory.initial ∙ length-map p.names.locations (λ e. e.1)
