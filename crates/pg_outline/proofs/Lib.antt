@@ -1,3 +1,9 @@
 mod Rows
 mod CrashSize
 mod Parts
+pub mod EraseNames
+pub mod EraseStmts
+pub mod EraseClauses
+pub mod EraseThreads
+pub mod EraseLaws
+pub mod EraseGraph

@@ -7,9 +7,14 @@
 //! (`specs/Erasure.antt`).
 #![tactic(auto)]
 
+mod erasure;
+#[cfg(test)]
+mod erasure_tests;
 mod fault;
+pub mod laws;
 mod outline;
 mod view;
 
+pub use erasure::erase;
 pub use fault::OutlineFault;
 pub use outline::{MAX_CRASH_LOCATIONS, MAX_NODES, Outline};

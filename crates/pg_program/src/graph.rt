@@ -113,7 +113,7 @@ impl Program {
         nth(self.thread(at.thread), at.point - 1)
     }
 
-    /// The statements of a thread, those of its blocks inside them.
+    /// The statements of a thread in the order of the text, with those of their blocks inside them.
     pub fn thread(&self, thread: u8) -> &[Stmt]
         requires { (1 ≤ thread) × (thread ≤ length self.now.threads) }
         ensures stmts { result.now ≡ thread_of self.now thread }

@@ -173,6 +173,7 @@ impl Names {
     pub fn locations(&self) -> u8
         ensures count { result ≡ length self.now.locations }
         ensures few { result ≤ MAX_LOCATIONS }
+        ensures told_apart { IsNameTable self.now }
     {
         self.locations.len() as u8
     }

@@ -1,0 +1,7 @@
+use Rattle.std.proofs.Common.{◌≡◌, ◌≤◌, take, length}
+use Rattle.pg_outline.specs.Erasure.{registers, new_place}
+use Rattle.pg_outline.proofs.erasure.new_place.Given as goal
+
+-- the registers so far are counted
+abbrev pub invariant-loop-q : goal.invariant-loop-q
+invariant-loop-q l = (l.place ≡ new_place l.names l.q) × (l.place ≤ l.q)

@@ -1,0 +1,224 @@
+//! The erasure of auxiliaries: an outline's program without auxiliaries and brackets.
+
+ghost use Rattle.std.specs.Prelude.{◌≡◌, map, IfOk, OnOk, None, false};
+ghost use Rattle.pg_program.specs.NameTable.{find, is_full, with_name};
+ghost use Rattle.pg_program.specs.Program.{IsProgram};
+ghost use Rattle.pg_outline.specs.Erasure.{erased, erased_names, erased_stmt, erased_act, moved, moved_test, new_place};
+
+use crate::outline::Outline;
+use pg_program::{Act, Cond, DeclareFault, Expr, NameKind, Names, Program, ProgramFault, Stmt};
+use sqlite_items::{Boxed, Items};
+use std::alloc::{AllocError, Global};
+
+/// The program of an outline without auxiliaries and brackets. The registers keep their order, and each of them has as its
+/// number how many registers stand before it.
+pub fn erase(alloc: Global, o: &Outline) -> Result<Program, AllocError>
+    ensures { IfOk result (λ p. p ≡ erased o.now.program) }
+{
+    erased_program(alloc, o.program())
+}
+
+/// A program without auxiliaries and brackets.
+fn erased_program(alloc: Global, program: &Program) -> Result<Program, AllocError>
+    ensures { IfOk result (λ p. p ≡ erased program.now) }
+{
+    let names = erased_names(alloc, program.names())?;
+    let threads = erased_threads(alloc, program)?;
+    built(alloc, names, threads)
+}
+
+/// The program of names and threads that have no fault.
+fn built(alloc: Global, names: Names, threads: Vec<Vec<Stmt>>) -> Result<Program, AllocError>
+    requires { IsProgram (record { names = names; threads = map (λ t. t.items) threads.items }) }
+    ensures { IfOk result (λ p. p ≡ record { names = names; threads = map (λ t. t.items) threads.items }) }
+{
+    match Program::build(alloc, names, threads) {
+        Ok(program) => Ok(program),
+        Err(fault) => match fault {
+            ProgramFault::NoMemory => Err(AllocError),
+            _ => unreachable!(),
+        },
+    }
+}
+
+// ---- names
+
+/// The names without the auxiliaries.
+fn erased_names(alloc: Global, names: &Names) -> Result<Names, AllocError>
+    ensures { IfOk result (λ n. n ≡ erased_names names.now) }
+{
+    let mut kept = Names::make(alloc, names.domain());
+    for x in 0..names.locations() {
+        let init = names.init(x);
+        declare(
+            &mut kept,
+            names.location_name(x),
+            NameKind::Location { init },
+        )?;
+    }
+    for r in 0..names.scalars() {
+        if let NameKind::Register { owner } = names.kind(r) {
+            declare(
+                &mut kept,
+                names.scalar_name(r),
+                NameKind::Register { owner },
+            )?;
+        }
+    }
+    Ok(kept)
+}
+
+/// Declares a name that is new, where there is room for it.
+fn declare(names: &mut Names, name: &str, kind: NameKind) -> Result<(), AllocError>
+    requires absent { find name.now names.old ≡ None }
+    requires room { is_full kind names.old ≡ false }
+    ensures { OnOk result (names.new ≡ with_name name.now kind names.old) }
+{
+    match names.declare(name, kind) {
+        Ok(_) => Ok(()),
+        Err(DeclareFault::NoMemory) => Err(AllocError),
+        Err(DeclareFault::Redeclared | DeclareFault::TooMany) => unreachable!(),
+    }
+}
+
+/// The new place of a register: how many registers stand before it.
+fn new_place(names: &Names, r: u8) -> u8
+    ensures { result ≡ new_place names.now r }
+{
+    let mut place = 0;
+    for q in 0..names.scalars().min(r) {
+        if let NameKind::Register { .. } = names.kind(q) {
+            place += 1;
+        }
+    }
+    place
+}
+
+// ---- statements
+
+/// An expression with each register at its new place.
+#[cycle(moved)]
+fn moved(alloc: Global, names: &Names, e: &Expr) -> Result<Expr, AllocError>
+    ensures { IfOk result (λ c. c ≡ moved (new_place names.now) e.now) }
+{
+    Ok(match e {
+        Expr::Value(v) => Expr::Value(*v),
+        Expr::Scalar(r) => Expr::Scalar(new_place(names, *r)),
+        Expr::Add(a, b) => {
+            let a = moved_operand(alloc, names, a.get())?;
+            Expr::Add(a, moved_operand(alloc, names, b.get())?)
+        }
+        Expr::Sub(a, b) => {
+            let a = moved_operand(alloc, names, a.get())?;
+            Expr::Sub(a, moved_operand(alloc, names, b.get())?)
+        }
+        Expr::Mul(a, b) => {
+            let a = moved_operand(alloc, names, a.get())?;
+            Expr::Mul(a, moved_operand(alloc, names, b.get())?)
+        }
+    })
+}
+
+/// An operand of an expression.
+#[cycle(moved)]
+fn moved_operand(alloc: Global, names: &Names, e: &Expr) -> Result<Boxed<Expr>, AllocError>
+    ensures { IfOk result (λ c. c ≡ moved (new_place names.now) e.now) }
+{
+    Boxed::new(alloc, moved(alloc, names, e)?)
+}
+
+/// A test with each register at its new place.
+fn moved_test(alloc: Global, names: &Names, test: &Cond) -> Result<Cond, AllocError>
+    ensures { IfOk result (λ c. c ≡ moved_test (new_place names.now) test.now) }
+{
+    let left = moved(alloc, names, &test.left)?;
+    let right = moved(alloc, names, &test.right)?;
+    Ok(Cond {
+        left,
+        right,
+        equal: test.equal,
+    })
+}
+
+/// The statements of each thread without brackets.
+fn erased_threads(alloc: Global, program: &Program) -> Result<Vec<Vec<Stmt>>, AllocError>
+    ensures { IfOk result (λ ts. map (λ t. t.items) ts.items ≡ map (map (erased_stmt (new_place program.now.names))) program.now.threads) }
+{
+    let mut threads = Vec::new(alloc);
+    for t in 0..program.threads() {
+        threads.push(erased_block(alloc, program.names(), program.thread(t + 1))?)?;
+    }
+    Ok(threads)
+}
+
+/// The statements of a block without brackets.
+#[cycle(erased)]
+fn erased_block(alloc: Global, names: &Names, stmts: &[Stmt]) -> Result<Vec<Stmt>, AllocError>
+    ensures { IfOk result (λ v. v.items ≡ map (erased_stmt (new_place names.now)) stmts.now) }
+{
+    let mut block = Vec::new(alloc);
+    'stmts: for stmt in stmts {
+        block.push(erased_stmt(alloc, names, stmt)?)?;
+    }
+    Ok(block)
+}
+
+/// A statement without its bracket and those within it.
+#[cycle(erased)]
+fn erased_stmt(alloc: Global, names: &Names, stmt: &Stmt) -> Result<Stmt, AllocError>
+    ensures { IfOk result (λ s. s ≡ erased_stmt (new_place names.now) stmt.now) }
+{
+    Ok(Stmt {
+        act: erased_act(alloc, names, &stmt.act)?,
+        aux: Items::new(alloc),
+    })
+}
+
+/// What a statement does, with each register at its new place.
+#[cycle(erased)]
+fn erased_act(alloc: Global, names: &Names, act: &Act) -> Result<Act, AllocError>
+    ensures { IfOk result (λ a. a ≡ erased_act (new_place names.now) act.now) }
+{
+    Ok(match act {
+        Act::Assign { target, expr } => Act::Assign {
+            target: new_place(names, *target),
+            expr: moved(alloc, names, expr)?,
+        },
+        Act::Store { location, expr } => Act::Store {
+            location: *location,
+            expr: moved(alloc, names, expr)?,
+        },
+        Act::Load { target, location } => Act::Load {
+            target: new_place(names, *target),
+            location: *location,
+        },
+        Act::Cas {
+            target,
+            location,
+            expected,
+            desired,
+        } => Act::Cas {
+            target: new_place(names, *target),
+            location: *location,
+            expected: moved(alloc, names, expected)?,
+            desired: moved(alloc, names, desired)?,
+        },
+        Act::Mfence => Act::Mfence,
+        Act::Sfence => Act::Sfence,
+        Act::Flush { location } => Act::Flush {
+            location: *location,
+        },
+        Act::Flushopt { location } => Act::Flushopt {
+            location: *location,
+        },
+        Act::If { test, yes, no } => Act::If {
+            test: moved_test(alloc, names, test)?,
+            yes: Items::from_vec(erased_block(alloc, names, yes.as_slice())?),
+            no: Items::from_vec(erased_block(alloc, names, no.as_slice())?),
+        },
+        Act::While { test, body } => Act::While {
+            test: moved_test(alloc, names, test)?,
+            body: Items::from_vec(erased_block(alloc, names, body.as_slice())?),
+        },
+    })
+}
