@@ -5,7 +5,7 @@ use Rattle.pg_lex.specs.declared.fault.TextFault.{TextFault}
 use Rattle.pg_lex.specs.declared.fault.TextFault.TheVariants.{At, NoMemory as text_no_memory}
 use Rattle.pg_program.specs.Fault as program
 use Rattle.pg_outline.specs.declared.fault.OutlineFault.{OutlineFault}
-use Rattle.pg_outline.specs.declared.fault.OutlineFault.TheVariants.{NoMemory as outline_no_memory}
+use Rattle.pg_outline.specs.declared.fault.OutlineFault.TheVariants.{ValueOutOfDomain, UnknownThread, CrashLocations, CrashNodes, NoMemory as outline_no_memory}
 use Rattle.pg_outline.specs.Fault as outline
 use Rattle.pg_assertion_text.specs.Input.{Outcome}
 use Rattle.pg_outline_text.specs.declared.fault.FileFault.{FileFault}
@@ -22,22 +22,30 @@ pub data Fault : Type 0 where
   of_program : program.Fault → Fault
   of_outline : OutlineFault → Fault
 
--- a fault of the tokens, and one of the formulas; want of memory is none
+-- the fault that an answer tells, if it is one of the file
+abbrev pub told : FileFault → Option Fault
+told (Text f) = Some (of_text f)
+told (Version n) = Some (other_version n)
+told (Program f) = option_map of_program (program.told f)
+told (Outline f) = Some (of_outline f)
+told NoMemory = None
+
+-- a fault of the tokens is one of the file; want of memory is none
 abbrev pub text_told : TextFault → Option Fault
 text_told (At place kind) = Some (of_text (At place kind))
 text_told text_no_memory = None
 
+-- a fault of the formulas is one of the file; want of memory is none
 abbrev pub outline_told : OutlineFault → Option Fault
 outline_told outline_no_memory = None
-outline_told f = Some (of_outline f)
+outline_told (ValueOutOfDomain v) = Some (of_outline (ValueOutOfDomain v))
+outline_told (UnknownThread t) = Some (of_outline (UnknownThread t))
+outline_told (CrashLocations n) = Some (of_outline (CrashLocations n))
+outline_told (CrashNodes n) = Some (of_outline (CrashNodes n))
 
--- the fault that an answer tells, if it is one of the file
-abbrev pub told : FileFault → Option Fault
-told (Text f) = text_told f
-told (Version n) = Some (other_version n)
-told (Program f) = option_map of_program (program.told f)
-told (Outline f) = outline_told f
-told NoMemory = None
+-- an answer that tells no fault is want of memory
+abbrev pub IsToldOrMemory : FileFault → Type 0
+IsToldOrMemory e = told e ≡ None → e ≡ NoMemory
 
 abbrev pub source_in : Outcome Source → Result Source Fault
 source_in (Ok p) = Ok p.0

@@ -1,10 +1,11 @@
 //! Whole texts, and the outlines that they stand for.
 
-ghost use Rattle.std.specs.Prelude.{◌≡◌, ℕ, ◌^◌, ◌<◌, length, map, Ok, Err, Some, IfOk, IfErr, IfSome, MatchResult};
+ghost use Rattle.std.specs.Prelude.{◌≡◌, ℕ, ◌^◌, ◌<◌, length, map, Ok, Err, Some, IfOk, IfErr, IfSome, MatchResult, option_map};
 ghost use Rattle.pg_assertion.specs.Formula.{plain};
 ghost use Rattle.pg_outline.specs.Outline.{OutlineTable as Table};
 ghost use Rattle.pg_program_text.specs.Text.{lines};
-ghost use Rattle.pg_outline_text.specs.Fault.{told, source_of, fault_in, text_told};
+ghost use Rattle.pg_outline_text.specs.Fault.{told, source_of, fault_in, text_told, outline_told, of_program, IsToldOrMemory};
+ghost use Rattle.pg_program.specs.Fault as program;
 ghost use Rattle.pg_outline_text.specs.Parts.{as_source};
 ghost use Rattle.pg_outline_text.specs.Ready.{IsReady};
 ghost use Rattle.pg_outline_text.specs.Source.{IsMadeOf};
@@ -31,6 +32,7 @@ pub fn parse_outline(alloc: Global, text: &[u8]) -> Result<Outline, FileFault>
     ensures found { IfOk result (λ o. StandsFor text.now o) }
     ensures only { (o : Table) → StandsFor text.now o → MatchResult result (λ p. p ≡ o) (λ e. e ≡ FileFault.NoMemory) }
     ensures told { IfErr result (λ e. Tells text.now e) }
+    ensures memory { IfErr result IsToldOrMemory }
 {
     match read_source(alloc, text) {
         Ok(source) => made(alloc, source),
@@ -42,7 +44,8 @@ pub fn parse_outline(alloc: Global, text: &[u8]) -> Result<Outline, FileFault>
 #[tactic(auto, unfolding(crate::specs::Fault::source_of))]
 fn read_source(alloc: Global, text: &[u8]) -> Result<Source, FileFault>
     requires { length text.now < 2 ^ 32 }
-    ensures { MatchResult result (λ s. source_of text.now ≡ Ok (as_source s)) (λ e. IfSome (told e) (λ f. source_of text.now ≡ Err f)) }
+    ensures source { MatchResult result (λ s. source_of text.now ≡ Ok (as_source s)) (λ e. IfSome (told e) (λ f. source_of text.now ≡ Err f)) }
+    ensures memory { IfErr result IsToldOrMemory }
 {
     let lexer = Lexer::make(text);
     let mut tokens = Tokens::new(&lexer, MAX_THREADS);
@@ -61,11 +64,34 @@ fn read_source(alloc: Global, text: &[u8]) -> Result<Source, FileFault>
 
 /// A fault of the tokens as one of the file.
 fn of_text(fault: TextFault) -> FileFault
-    ensures { told result ≡ text_told fault }
+    ensures told { told result ≡ text_told fault }
+    ensures memory { IsToldOrMemory result }
 {
     match fault {
         TextFault::NoMemory => FileFault::NoMemory,
         fault => FileFault::Text(fault),
+    }
+}
+
+/// A fault of the program as one of the file.
+fn of_program(fault: ProgramFault) -> FileFault
+    ensures told { told result ≡ option_map of_program (program.told fault) }
+    ensures memory { IsToldOrMemory result }
+{
+    match fault {
+        ProgramFault::NoMemory => FileFault::NoMemory,
+        fault => FileFault::Program(fault),
+    }
+}
+
+/// A fault of the formulas as one of the file.
+fn of_outline(fault: OutlineFault) -> FileFault
+    ensures told { told result ≡ outline_told fault }
+    ensures memory { IsToldOrMemory result }
+{
+    match fault {
+        OutlineFault::NoMemory => FileFault::NoMemory,
+        fault => FileFault::Outline(fault),
     }
 }
 
@@ -96,7 +122,8 @@ fn split_threads(alloc: Global, threads: Vec<ThreadText>) -> Result<Parted, Allo
 /// The outline that is made of what was read, or its first fault.
 fn made(alloc: Global, source: Source) -> Result<Outline, FileFault>
     requires { IsReady (as_source source) }
-    ensures { MatchResult result (IsMadeOf (as_source source)) (λ e. IfSome (told e) (λ f. fault_in (as_source source) ≡ Some f)) }
+    ensures outline { MatchResult result (IsMadeOf (as_source source)) (λ e. IfSome (told e) (λ f. fault_in (as_source source) ≡ Some f)) }
+    ensures memory { IfErr result IsToldOrMemory }
 {
     let Source {
         names,
@@ -107,12 +134,10 @@ fn made(alloc: Global, source: Source) -> Result<Outline, FileFault>
     let Parted { stmts, notes } = split_threads(alloc, threads)?;
     let program = match Program::build(alloc, names, stmts) {
         Ok(program) => program,
-        Err(ProgramFault::NoMemory) => return Err(FileFault::NoMemory),
-        Err(fault) => return Err(FileFault::Program(fault)),
+        Err(fault) => return Err(of_program(fault)),
     };
     match Outline::build(alloc, program, pre, crash, notes) {
         Ok(outline) => Ok(outline),
-        Err(OutlineFault::NoMemory) => Err(FileFault::NoMemory),
-        Err(fault) => Err(FileFault::Outline(fault)),
+        Err(fault) => Err(of_outline(fault)),
     }
 }

@@ -1,0 +1,5 @@
+mod Turned
+mod Made
+mod Keywords
+mod HeadSound
+mod TextSound
