@@ -3,3 +3,4 @@ mod Made
 mod Keywords
 mod HeadSound
 mod TextSound
+mod Answered
