@@ -3,4 +3,6 @@ mod Made
 mod Keywords
 mod HeadSound
 mod TextSound
+mod HeadComplete
+mod TextComplete
 mod Answered

@@ -8,7 +8,7 @@ mod ExprComplete
 mod PartsSound
 pub mod ThreadSound
 mod PartsComplete
-mod ThreadComplete
+pub mod ThreadComplete
 mod Spelling
 mod SpellingTrees
 mod SpellingDeclared
@@ -19,5 +19,5 @@ mod SpellingStmts
 mod SpellingThreads
 mod Again
 mod Bodies
-mod Declared
-mod Whole
+pub mod Declared
+pub mod Whole

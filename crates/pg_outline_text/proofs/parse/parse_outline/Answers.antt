@@ -1,5 +1,5 @@
 use Rattle.pg_outline_text.specs.Parts.{as_source}
-use Rattle.pg_outline_text.proofs.Answered.{answer_found}
+use Rattle.pg_outline_text.proofs.Answered.{answer_found, answer_only, reading_only}
 use Rattle.pg_outline_text.proofs.parse.parse_outline.Goals as goal
 
 pub made-requires : goal.made-requires
@@ -9,7 +9,7 @@ pub returns-in-Ok-clause-found : goal.returns-in-Ok-clause-found
 returns-in-Ok-clause-found c = answer_found c.args.text.now (as_source c.in-Ok.source) c.made.result c.in-Ok.ensures.source c.made.ensures.outline
 
 pub returns-in-Ok-clause-only : goal.returns-in-Ok-clause-only
-returns-in-Ok-clause-only c = ?
+returns-in-Ok-clause-only c = answer_only c.args.text.now (as_source c.in-Ok.source) c.made.result c.in-Ok.ensures.source c.made.ensures.outline c.made.ensures.memory
 
 pub returns-in-Err-clause-only : goal.returns-in-Err-clause-only
-returns-in-Err-clause-only c = ?
+returns-in-Err-clause-only c = reading_only c.args.text.now c.in-Err.fault c.in-Err.ensures.source c.in-Err.ensures.memory
