@@ -1,23 +1,23 @@
 -- The declarations, the precondition and the crash formula that are in the grammar are read.
-use Rattle.std.proofs.Common.{◌≡◌, ℕ, zero, suc, ◌+◌, ◌<◌, ◌≤◌, Bool, true, false, Ok, Err, Some, None, List, [], ◌∷◌, ◌++◌, length, nat_le, refl, ap, sym, ◌∙◌, subst, arith}
-use Rattle.std.specs.Prelude.{Option, if◌then◌else◌, Result}
+use Rattle.std.proofs.Common.{◌≡◌, ℕ, zero, suc, ◌+◌, ◌<◌, ◌≤◌, false, Ok, Err, Some, None, List, [], ◌∷◌, length, refl, ap, sym, ◌∙◌, subst, arith}
+use Rattle.std.specs.Prelude.{if◌then◌else◌}
 use Rattle.std.proofs.lemmas.List.{length_push}
 use Rattle.std.proofs.lemmas.Bool.{leb-false}
 use Rattle.pg_lex.specs.declared.token.Sign.TheVariants as s
 use Rattle.pg_lex.specs.declared.token.TokenKind.TheVariants as kind
 use Rattle.pg_lex.specs.declared.fault.TextKind.TheVariants.{Unexpected}
-use Rattle.pg_lex.specs.Lex.{Cursor, Lexeme, token, after}
+use Rattle.pg_lex.specs.Lex.{Cursor, Lexeme, token}
 use Rattle.pg_program.specs.declared.name_table.TheConstants.{MAX_LOCATIONS, MAX_SCALARS}
 use Rattle.pg_program.specs.declared.name_table.NameKind.{NameKind}
 use Rattle.pg_program.specs.declared.name_table.NameKind.TheVariants as name
 use Rattle.pg_program.specs.declared.name_table.ScalarKind.TheVariants as scalar
 use Rattle.pg_program.specs.NameTable.{NameTable, find, is_full, with_name}
-use Rattle.pg_assertion.specs.Formula.{Plain, top}
-use Rattle.pg_assertion_text.specs.Words.{Stands, Stand, sign, number, is_reserved}
+use Rattle.pg_assertion.specs.Formula.{Plain}
+use Rattle.pg_assertion_text.specs.Words.{Stands, Stand, sign, number}
 use Rattle.pg_assertion_text.specs.Input as input
 use Rattle.pg_assertion_text.specs.Input.{Input, Outcome, Parser, and_then, pure, allowed, peek, next, expect}
 use Rattle.pg_assertion_text.specs.Laws.{FindsAtoms, ReadsAtoms, BeginsAtoms}
-use Rattle.pg_assertion_text.specs.Parsing.{IsFormula, formula_at}
+use Rattle.pg_assertion_text.specs.Parsing.{formula_at}
 use Rattle.pg_assertion_text.specs.Steps.{bind_value, next_reads, peek_reads, stands_token, expect_reads, number_reads}
 use Rattle.pg_assertion_text.proofs.Whole.{formula_at_reads}
 use Rattle.pg_program_text.specs.Stmt.{behind}

@@ -1,5 +1,5 @@
 -- The declarations, the precondition and the crash formula that are read are in the grammar.
-use Rattle.std.proofs.Common.{◌≡◌, ℕ, zero, suc, ◌+◌, Bool, true, false, Ok, Err, Some, None, List, [], ◌∷◌, refl, ap, sym, ◌∙◌, subst, arith}
+use Rattle.std.proofs.Common.{◌≡◌, ℕ, zero, suc, Bool, true, false, Ok, Err, Some, None, List, [], ◌∷◌, refl, ap, sym, ◌∙◌, subst, arith}
 use Rattle.std.specs.Prelude.{Option, if◌then◌else◌, Result}
 use Rattle.std.specs.Result.{result_unwrap_or}
 use Rattle.pg_lex.specs.declared.token.Sign.TheVariants as s
@@ -8,13 +8,13 @@ use Rattle.pg_lex.specs.declared.token.TokenKind.TheVariants as kind
 use Rattle.pg_lex.specs.declared.fault.TextFault.{TextFault}
 use Rattle.pg_lex.specs.declared.fault.TextKind.{TextKind}
 use Rattle.pg_lex.specs.declared.fault.TextKind.TheVariants.{Unexpected}
-use Rattle.pg_lex.specs.Lex.{Cursor, Lexeme, token, after}
+use Rattle.pg_lex.specs.Lex.{Cursor, Lexeme, token}
 use Rattle.pg_program.specs.declared.name_table.NameKind.{NameKind}
 use Rattle.pg_program.specs.declared.name_table.NameKind.TheVariants as name
 use Rattle.pg_program.specs.declared.name_table.NameRef.{NameRef}
 use Rattle.pg_program.specs.NameTable.{NameTable, find, is_full, with_name}
 use Rattle.pg_assertion.specs.Formula.{Plain, top}
-use Rattle.pg_assertion_text.specs.Words.{Stands, Stand, Item, sign, number, is_reserved}
+use Rattle.pg_assertion_text.specs.Words.{Stands, sign, number, is_reserved}
 use Rattle.pg_assertion_text.specs.Input as input
 use Rattle.pg_assertion_text.specs.Input.{Input, Outcome, Parser, and_then, pure, allowed, peek, next, expect}
 use Rattle.pg_assertion_text.specs.Laws.{FindsAtoms, ReadsAtoms, BeginsAtoms}

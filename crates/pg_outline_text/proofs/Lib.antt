@@ -2,7 +2,9 @@ mod Turned
 mod Made
 mod Keywords
 mod HeadSound
-mod TextSound
+pub mod TextSound
 mod HeadComplete
-mod TextComplete
+pub mod TextComplete
+mod OneDraft
+pub mod ReadyTexts
 mod Answered

@@ -1,6 +1,6 @@
 -- A text of the grammar is read as what it is the text of.
-use Rattle.std.proofs.Common.{◌≡◌, ℕ, zero, suc, ◌+◌, ◌-◌, ◌<◌, ◌≤◌, Bool, true, false, Ok, Err, List, [], ◌∷◌, ◌++◌, length, refl, ap, sym, ◌∙◌, subst, arith, append_assoc}
-use Rattle.std.specs.Prelude.{◌==◌, if◌then◌else◌, Result}
+use Rattle.std.proofs.Common.{◌≡◌, ℕ, zero, suc, ◌+◌, ◌-◌, ◌<◌, ◌≤◌, false, Ok, Err, List, [], ◌∷◌, ◌++◌, length, refl, ap, sym, ◌∙◌, subst, arith, append_assoc}
+use Rattle.std.specs.Prelude.{if◌then◌else◌}
 use Rattle.std.specs.Str.{bytes_eq}
 use Rattle.std.proofs.lemmas.Bool.{eq-eqb}
 use Rattle.std.proofs.lemmas.List.{length_push}
@@ -8,13 +8,12 @@ use Rattle.pg_lex.specs.declared.token.Sign.TheVariants as s
 use Rattle.pg_lex.specs.declared.token.TokenKind.TheVariants as kind
 use Rattle.pg_lex.specs.declared.fault.TextKind.TheVariants.{Unexpected}
 use Rattle.pg_lex.specs.Lex.{Cursor, Lexeme, token, start}
-use Rattle.pg_program.specs.declared.name_table.TheConstants.{MAX_LOCATIONS, MAX_SCALARS}
 use Rattle.pg_program.specs.NameTable.{NameTable, empty_table}
 use Rattle.pg_assertion.specs.declared.atom.RawAtom.{RawAtom}
 use Rattle.pg_assertion.specs.declared.atom.CrashAtom.{CrashAtom}
 use Rattle.pg_assertion.specs.Formula.{Plain}
 use Rattle.pg_assertion_text.specs.Words.{Stands, Stand, sign, number}
-use Rattle.pg_assertion_text.specs.Input.{Input, Outcome, Parser, and_then, pure, refuse, allowed, peek, next, node, expect}
+use Rattle.pg_assertion_text.specs.Input.{Input, and_then, pure, refuse, allowed, peek, next, node, expect}
 use Rattle.pg_assertion_text.specs.Atoms.{raw_atom, crash_atom, IsRaw, IsCrash}
 use Rattle.pg_assertion_text.specs.AtomLaws.{raw_found, raw_again, raw_begins, crash_found, crash_again, crash_begins}
 use Rattle.pg_assertion_text.specs.Steps.{bind_value, peek_reads, stands_token, node_reads, expect_reads, stand-split}
@@ -26,14 +25,14 @@ use Rattle.pg_outline_text.specs.declared.word.Keyword.{Keyword}
 use Rattle.pg_outline_text.specs.declared.word.Keyword.TheVariants as w
 use Rattle.pg_outline_text.specs.declared.thread.TheConstants.{MAX_THREADS}
 use Rattle.pg_outline_text.specs.declared.declaration.TheConstants.{MAX_DECLARATIONS}
-use Rattle.pg_outline_text.specs.Word.{spelling, is_keyword}
+use Rattle.pg_outline_text.specs.Word.{spelling}
 use Rattle.pg_outline_text.specs.Declaration.{declarations}
-use Rattle.pg_outline_text.specs.Reading.{precondition, crash_formula, opens_thread, opened, own_number_in, own_number, thread, is_end, threads_on, threads, domain, outline_over, outline, version, whole}
+use Rattle.pg_outline_text.specs.Reading.{precondition, crash_formula, opens_thread, opened, own_number_in, own_number, thread, is_end, threads_on, threads, domain, outline_over, outline, whole}
 use Rattle.pg_outline_text.specs.Source.{Source}
 use Rattle.pg_outline_text.specs.Fault.{source_in, behind_version, source_of}
-use Rattle.pg_outline_text.specs.Grammar.{keyword, IsGiven, left_out, written, IsEnd, IsThread, AreThreads, last_one, one_thread, IsSourceText}
+use Rattle.pg_outline_text.specs.Grammar.{keyword, IsGiven, left_out, written, IsThread, AreThreads, last_one, one_thread, IsSourceText}
 use Rattle.pg_outline_text.proofs.Keywords.{keyword_told, keyword_is}
-use Rattle.pg_outline_text.proofs.HeadComplete.{version_reads, domain_reads, DeclaresNone, IsFew, declarations_read, IsNot, given_reads}
+use Rattle.pg_outline_text.proofs.HeadComplete.{version_reads, domain_reads, DeclaresNone, declarations_read, IsNot, given_reads}
 
 abbrev at : Cursor → ℕ → Input
 at c r = record { cursor = c; room = r }
@@ -92,18 +91,17 @@ threads_read names _ _ _ (last_one k l from to is end) zero r many turns found s
 threads_read names _ _ _ (last_one k l from to is end) (suc n) r many turns found same = (
   at to (r - 1),
   turn_reads names n r found l from to end.lexeme (subst (λ k. IsThread names k from l to) same is) (omega arith) end.read
-  ∙ ap (λ z. (if is_end z then pure (found ++ l ∷ []) else threads_on names n (found ++ l ∷ [])) (at to (r - 1))) end.is_end,
+      ∙ ap (λ z. (if is_end z then pure (found ++ l ∷ []) else threads_on names n (found ++ l ∷ [])) (at to (r - 1))) end.is_end,
 )
 threads_read names _ _ _ (one_thread k l ls from to is rest) zero r many turns found same = absurd (omega arith)
 threads_read names _ _ _ (one_thread k l ls from to is rest) (suc n) r many turns found same =
     let next = threads_open names (k + 1) to ls rest in
-    let others = threads_read names (k + 1) to ls rest n (r - 1) (omega arith) (omega arith) (found ++ l ∷ []) (ap (λ k. k + 1) (same ∙ sym (length_push found l))) in
-    (
+    let others = threads_read names (k + 1) to ls rest n (r - 1) (omega arith) (omega arith) (found ++ l ∷ []) (ap (λ k. k + 1) (same ∙ sym (length_push found l))) in (
       others.0,
       turn_reads names n r found l from to next.lexeme (subst (λ k. IsThread names k from l to) same is) (omega arith) next.read
-      ∙ ap (λ z. (if is_end z then pure (found ++ l ∷ []) else threads_on names n (found ++ l ∷ [])) (at to (r - 1))) next.is.0
-      ∙ others.1
-      ∙ ap (λ ls. Ok (ls, others.0)) (append_assoc found (l ∷ []) ls),
+          ∙ ap (λ z. (if is_end z then pure (found ++ l ∷ []) else threads_on names n (found ++ l ∷ [])) (at to (r - 1))) next.is.0
+          ∙ others.1
+          ∙ ap (λ ls. Ok (ls, others.0)) (append_assoc found (l ∷ []) ls),
     )
 
 -- ---- what stands where a formula is left out
@@ -152,12 +150,11 @@ unfolding outline_over threads
 over_reads o r from crash_at threads_at pre crash threads few =
     let opens = threads_open o.names 1 threads_at o.threads threads in
     let behind = crash_behind o.names crash_at threads_at o.crash crash opens in
-    let all = threads_read o.names 1 threads_at o.threads threads (r + 1) r few (omega arith) [] refl in
-    (
+    let all = threads_read o.names 1 threads_at o.threads threads (r + 1) r few (omega arith) [] refl in (
       all.0,
       bind_value (precondition o.names (at from r)) _ o.pre (at crash_at r) (precondition_reads o.names r from crash_at o.pre pre behind.no_pre)
-      ∙ bind_value (crash_formula o.names (at crash_at r)) _ o.crash (at threads_at r) (crash_formula_reads o.names r crash_at threads_at o.crash crash (is_not w.Thread w.Crash threads_at refl opens))
-      ∙ ap (λ p. and_then p (λ ts. pure (record { names = o.names; pre = o.pre; crash = o.crash; threads = ts }))) all.1,
+          ∙ bind_value (crash_formula o.names (at crash_at r)) _ o.crash (at threads_at r) (crash_formula_reads o.names r crash_at threads_at o.crash crash (is_not w.Thread w.Crash threads_at refl opens))
+          ∙ ap (λ p. and_then p (λ ts. pure (record { names = o.names; pre = o.pre; crash = o.crash; threads = ts }))) all.1,
     )
 
 outline_reads : (bytes : List ℕ) (o : Source) (is : IsSourceText bytes o) (mid : Cursor)
@@ -168,14 +165,13 @@ outline_reads bytes o is mid head =
     let behind = crash_behind o.names is.crash_at is.threads_at o.crash is.crash opens in
     let none = pre_behind o.names is.pre_at is.crash_at o.pre is.pre behind.declares_none in
     let over = over_reads o MAX_THREADS is.pre_at is.crash_at is.threads_at is.pre is.crash is.threads is.few in
-    let empty = empty_table is.domain in
-    (
+    let empty = empty_table is.domain in (
       over.0,
       bind_value (and_then (expect s.Semicolon (at mid MAX_THREADS)) (λ u. domain)) (λ d. (λ i. and_then (declarations (empty_table d) i) outline_over)) is.domain (at is.decls MAX_THREADS)
-      (ap (λ p. and_then p (λ u. domain)) (expect_reads empty s.Semicolon (at mid MAX_THREADS) head.0 head.1) ∙ domain_reads empty (at head.0 MAX_THREADS) is.domain is.decls head.2)
-      ∙ bind_value (declarations empty (at is.decls MAX_THREADS)) outline_over o.names (at is.pre_at MAX_THREADS)
-      (declarations_read empty o.names (at is.decls MAX_THREADS) is.decls is.pre_at refl is.declared none (record { locations = omega arith; scalars = omega arith }) MAX_DECLARATIONS (omega arith))
-      ∙ over.1,
+          (ap (λ p. and_then p (λ u. domain)) (expect_reads empty s.Semicolon (at mid MAX_THREADS) head.0 head.1) ∙ domain_reads empty (at head.0 MAX_THREADS) is.domain is.decls head.2)
+          ∙ bind_value (declarations empty (at is.decls MAX_THREADS)) outline_over o.names (at is.pre_at MAX_THREADS)
+          (declarations_read empty o.names (at is.decls MAX_THREADS) is.decls is.pre_at refl is.declared none (record { locations = omega arith; scalars = omega arith }) MAX_DECLARATIONS (omega arith))
+          ∙ over.1,
     )
 
 -- what stands there is read

@@ -14,8 +14,8 @@ use Rattle.pg_program.specs.NameTable.{NameTable, empty_table}
 use Rattle.pg_assertion.specs.declared.atom.RawAtom.{RawAtom}
 use Rattle.pg_assertion.specs.declared.atom.CrashAtom.{CrashAtom}
 use Rattle.pg_assertion.specs.Formula.{Plain}
-use Rattle.pg_assertion_text.specs.Words.{Stands, Stand, sign, number}
-use Rattle.pg_assertion_text.specs.Input.{Input, Outcome, and_then, pure, refuse, allowed, peek, next, node, expect}
+use Rattle.pg_assertion_text.specs.Words.{Stands, sign, number}
+use Rattle.pg_assertion_text.specs.Input.{Input, Outcome, and_then, pure, refuse, peek, next, node, expect}
 use Rattle.pg_assertion_text.specs.Atoms.{raw_atom, crash_atom, IsRaw, IsCrash}
 use Rattle.pg_assertion_text.specs.AtomLaws.{raw_found, raw_again, raw_begins, crash_found, crash_again, crash_begins}
 use Rattle.pg_assertion_text.specs.Steps.{ok_same, bind_then, allowed_then, next_found, peek_found, Takes, takes_one, takes_then, node_takes, expect_found}
@@ -24,7 +24,6 @@ use Rattle.pg_program_text.specs.Thread.{Lines, thread_at}
 use Rattle.pg_program_text.specs.Grammar.{IsThreadText}
 use Rattle.pg_program_text.proofs.ThreadSound.{thread_found}
 use Rattle.pg_outline_text.specs.declared.word.Keyword.TheVariants as w
-use Rattle.pg_outline_text.specs.declared.thread.TheConstants.{MAX_THREADS}
 use Rattle.pg_outline_text.specs.declared.parse.TheConstants.{VERSION}
 use Rattle.pg_outline_text.specs.declared.declaration.TheConstants.{MAX_DECLARATIONS}
 use Rattle.pg_outline_text.specs.Word.{is_keyword}

@@ -5,7 +5,7 @@
 --   thread = "thread" NUMBER "{" body "}"
 --
 -- Threads are numbered from 1 in the order of the text. The relations say what stands from one place of a text to another.
-use Rattle.std.specs.Prelude.{◌≡◌, ℕ, suc, ◌+◌, ◌≤◌, false, List, [], ◌∷◌, length, None, Ok}
+use Rattle.std.specs.Prelude.{◌≡◌, ℕ, ◌+◌, ◌≤◌, false, List, [], ◌∷◌, length, None, Ok}
 use Rattle.pg_lex.specs.declared.token.Sign.TheVariants as s
 use Rattle.pg_lex.specs.declared.token.TokenKind.TheVariants as kind
 use Rattle.pg_lex.specs.Lex.{Cursor, Lexeme, token, after, start}

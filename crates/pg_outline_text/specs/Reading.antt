@@ -10,7 +10,7 @@ use Rattle.pg_lex.specs.declared.token.TokenKind.{TokenKind}
 use Rattle.pg_lex.specs.declared.token.TokenKind.TheVariants as kind
 use Rattle.pg_lex.specs.declared.fault.TextKind.{TextKind}
 use Rattle.pg_lex.specs.declared.fault.TextKind.TheVariants.{Unexpected, TooMany}
-use Rattle.pg_lex.specs.Lex.{Cursor, Lexeme, start}
+use Rattle.pg_lex.specs.Lex.{Lexeme, start}
 use Rattle.pg_program.specs.NameTable.{NameTable, empty_table}
 use Rattle.pg_assertion.specs.declared.atom.RawAtom.{RawAtom}
 use Rattle.pg_assertion.specs.declared.atom.CrashAtom.{CrashAtom}

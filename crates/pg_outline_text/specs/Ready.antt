@@ -1,11 +1,11 @@
 -- What was read may be made a program, and then an outline.
-use Rattle.std.specs.Prelude.{◌≡◌, ◌+◌, length, map, All, Result, Ok, Err, IfSome}
+use Rattle.std.specs.Prelude.{◌≡◌, ◌+◌, length, map, All}
 use Rattle.pg_program.specs.Block.{block}
 use Rattle.pg_program.specs.Graph.{size}
 use Rattle.pg_program.specs.Program.{AreThreads}
 use Rattle.pg_assertion.specs.Atom.{RawDeclared, CrashDeclared}
-use Rattle.pg_outline.specs.Outline.{OutlineTable, IsSmall}
-use Rattle.pg_outline_text.specs.Source.{Source, program_of, draft, IsMadeOf}
+use Rattle.pg_outline.specs.Outline.{IsSmall}
+use Rattle.pg_outline_text.specs.Source.{Source, program_of, draft}
 
 -- threads over the names, formulas over the names, and a note for each point
 pub record IsReady (s : Source) : Type 0 where

@@ -10,6 +10,7 @@
 mod declaration;
 mod fault;
 mod given;
+pub mod laws;
 mod parse;
 mod source;
 mod thread;

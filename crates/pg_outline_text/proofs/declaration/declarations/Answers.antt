@@ -1,5 +1,5 @@
 -- Each goal says what the declarations lead to, by what their turn met.
-use Rattle.std.proofs.Common.{rules, ◌≢◌, ◌∙◌, ◌+◌, ◌-◌, ap, sym, Ok, Err}
+use Rattle.std.proofs.Common.{rules, ◌≢◌, ◌∙◌, ap, sym, Ok, Err}
 use Rattle.pg_lex.specs.declared.fault.TextFault.TheVariants.{NoMemory}
 use Rattle.pg_program.specs.NameTable.{NameTable}
 use Rattle.pg_outline_text.specs.declared.declaration.TheConstants.{MAX_DECLARATIONS}

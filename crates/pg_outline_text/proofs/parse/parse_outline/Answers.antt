@@ -1,9 +1,11 @@
 use Rattle.pg_outline_text.specs.Parts.{as_source}
 use Rattle.pg_outline_text.proofs.Answered.{answer_found, answer_only, reading_only}
+use Rattle.pg_outline_text.proofs.ReadyTexts.{source_ready}
+use Rattle.pg_outline_text.proofs.TextSound.{source_found}
 use Rattle.pg_outline_text.proofs.parse.parse_outline.Goals as goal
 
 pub made-requires : goal.made-requires
-made-requires c = ?
+made-requires c = source_ready c.args.text.now (as_source c.in-Ok.source) (source_found c.args.text.now (as_source c.in-Ok.source) c.in-Ok.ensures.source)
 
 pub returns-in-Ok-clause-found : goal.returns-in-Ok-clause-found
 returns-in-Ok-clause-found c = answer_found c.args.text.now (as_source c.in-Ok.source) c.made.result c.in-Ok.ensures.source c.made.ensures.outline
