@@ -13,10 +13,10 @@ use Rattle.pg_assertion.specs.declared.atom.RawAtom.{RawAtom}
 use Rattle.pg_assertion.specs.declared.atom.CrashAtom.{CrashAtom}
 use Rattle.pg_assertion.specs.Formula.{Plain}
 use Rattle.pg_assertion_text.specs.Words.{Stands, Stand, sign, number}
-use Rattle.pg_assertion_text.specs.Input.{Input, and_then, pure, refuse, allowed, peek, next, node, expect}
+use Rattle.pg_assertion_text.specs.Input.{Input, and_then, pure, refuse, allowed, peek, next, node, expect, is_sign, named}
 use Rattle.pg_assertion_text.specs.Atoms.{raw_atom, crash_atom, IsRaw, IsCrash}
 use Rattle.pg_assertion_text.specs.AtomLaws.{raw_found, raw_again, raw_begins, crash_found, crash_again, crash_begins}
-use Rattle.pg_assertion_text.specs.Steps.{bind_value, peek_reads, stands_token, node_reads, expect_reads, stand-split}
+use Rattle.pg_assertion_text.specs.Steps.{bind_value, peek_reads, stands_token, node_reads, expect_reads, sign_is_same, stand-split}
 use Rattle.pg_program_text.specs.Stmt.{behind}
 use Rattle.pg_program_text.specs.Thread.{Lines, thread_at}
 use Rattle.pg_program_text.specs.Grammar.{IsThreadText}
@@ -27,7 +27,7 @@ use Rattle.pg_outline_text.specs.declared.thread.TheConstants.{MAX_THREADS}
 use Rattle.pg_outline_text.specs.declared.declaration.TheConstants.{MAX_DECLARATIONS}
 use Rattle.pg_outline_text.specs.Word.{spelling}
 use Rattle.pg_outline_text.specs.Declaration.{declarations}
-use Rattle.pg_outline_text.specs.Reading.{precondition, crash_formula, opens_thread, opened, own_number_in, own_number, thread, is_end, threads_on, threads, domain, outline_over, outline, whole}
+use Rattle.pg_outline_text.specs.Reading.{precondition, crash_formula, opens_thread, opened, own_number_in, own_number, end_fault, close, thread, is_end, threads_on, threads, domain, outline_over, outline, whole}
 use Rattle.pg_outline_text.specs.Source.{Source}
 use Rattle.pg_outline_text.specs.Fault.{source_in, behind_version, source_of}
 use Rattle.pg_outline_text.specs.Grammar.{keyword, IsGiven, left_out, written, IsThread, AreThreads, last_one, one_thread, IsSourceText}
@@ -53,16 +53,23 @@ own_number_reads names k r from to st =
     ∙ ap (λ z. allowed st.lexeme.place (own_number_in k z) (at to r)) st.matches
     ∙ ap (λ b. allowed st.lexeme.place (if b then Ok tt else Err Unexpected) (at to r)) (eq-eqb k k refl)
 
+close_reads : (names : NameTable) (r : ℕ) (from to : Cursor) → Stands names (sign s.CloseBrace) from to → close names (at from r) ≡ Ok (tt, at to r)
+unfolding close
+close_reads names r from to st =
+    bind_value (next (at from r)) (λ t. if is_sign s.CloseBrace t.kind then pure tt else refuse t.place (end_fault (named names t))) st.lexeme (at to r) (stands_token names (sign s.CloseBrace) (at from r) to st)
+    ∙ ap (λ z. (if is_sign s.CloseBrace z then pure tt else refuse st.lexeme.place (end_fault (named names st.lexeme))) (at to r)) st.matches
+    ∙ ap (λ b. (if b then pure tt else refuse st.lexeme.place (end_fault (named names st.lexeme))) (at to r)) (sign_is_same s.CloseBrace)
+
 thread_is_read : (names : NameTable) (k r : ℕ) (from to : Cursor) (l : Lines) → IsThread names k from l to → 0 < r → thread names k (at from r) ≡ Ok (l, at to (r - 1))
 unfolding thread
 thread_is_read names k r from to l is some =
     let head = is.head in
-    bind_value (and_then (and_then (and_then (opened (at from r)) (λ u. own_number k)) (λ u. expect s.OpenBrace)) (λ u q. behind q (thread_at names q.cursor))) (λ l. (λ i. and_then (expect s.CloseBrace i) (λ u. pure l))) l (at is.end (r - 1))
+    bind_value (and_then (and_then (and_then (opened (at from r)) (λ u. own_number k)) (λ u. expect s.OpenBrace)) (λ u q. behind q (thread_at names q.cursor))) (λ l. (λ i. and_then (close names i) (λ u. pure l))) l (at is.end (r - 1))
     (ap (λ o. and_then (and_then (and_then o (λ u. own_number k)) (λ u. expect s.OpenBrace)) (λ u q. behind q (thread_at names q.cursor))) (opened_reads names r from head.0 head.1 some)
     ∙ ap (λ o. and_then (and_then o (λ u. expect s.OpenBrace)) (λ u q. behind q (thread_at names q.cursor))) (own_number_reads names k (r - 1) head.0 head.2.0 head.2.1)
     ∙ ap (λ o. and_then o (λ u q. behind q (thread_at names q.cursor))) (expect_reads names s.OpenBrace (at head.2.0 (r - 1)) head.2.2.0 head.2.2.1)
     ∙ ap (behind (at head.2.2.0 (r - 1))) (thread_reads names head.2.2.0 is.end l (subst (λ c. IsThreadText names c l is.end) head.2.2.2 is.body)))
-    ∙ ap (λ o. and_then o (λ u. pure l)) (expect_reads names s.CloseBrace (at is.end (r - 1)) to is.close)
+    ∙ ap (λ o. and_then o (λ u. pure l)) (close_reads names (r - 1) is.end to is.close)
 
 -- the next token is this word
 record Opens (k : Keyword) (c : Cursor) : Type 0 where

@@ -15,10 +15,10 @@ use Rattle.pg_assertion.specs.declared.atom.RawAtom.{RawAtom}
 use Rattle.pg_assertion.specs.declared.atom.CrashAtom.{CrashAtom}
 use Rattle.pg_assertion.specs.Formula.{Plain}
 use Rattle.pg_assertion_text.specs.Words.{Stands, sign, number}
-use Rattle.pg_assertion_text.specs.Input.{Input, Outcome, and_then, pure, refuse, peek, next, node, expect}
+use Rattle.pg_assertion_text.specs.Input.{Input, Outcome, and_then, pure, refuse, peek, next, node, expect, is_sign, named}
 use Rattle.pg_assertion_text.specs.Atoms.{raw_atom, crash_atom, IsRaw, IsCrash}
 use Rattle.pg_assertion_text.specs.AtomLaws.{raw_found, raw_again, raw_begins, crash_found, crash_again, crash_begins}
-use Rattle.pg_assertion_text.specs.Steps.{ok_same, bind_then, allowed_then, next_found, peek_found, Takes, takes_one, takes_then, node_takes, expect_found}
+use Rattle.pg_assertion_text.specs.Steps.{ok_same, bind_then, allowed_then, next_found, peek_found, Takes, takes_one, takes_then, node_takes, expect_found, is_sign_found}
 use Rattle.pg_program_text.specs.Stmt.{behind}
 use Rattle.pg_program_text.specs.Thread.{Lines, thread_at}
 use Rattle.pg_program_text.specs.Grammar.{IsThreadText}
@@ -28,7 +28,7 @@ use Rattle.pg_outline_text.specs.declared.parse.TheConstants.{VERSION}
 use Rattle.pg_outline_text.specs.declared.declaration.TheConstants.{MAX_DECLARATIONS}
 use Rattle.pg_outline_text.specs.Word.{is_keyword}
 use Rattle.pg_outline_text.specs.Declaration.{declarations}
-use Rattle.pg_outline_text.specs.Reading.{precondition, crash_formula, opens_thread, opened, own_number_in, own_number, thread, is_end, threads_on, threads, domain, outline_over, outline, version, whole}
+use Rattle.pg_outline_text.specs.Reading.{precondition, crash_formula, opens_thread, opened, own_number_in, own_number, end_fault, close, thread, is_end, threads_on, threads, domain, outline_over, outline, version, whole}
 use Rattle.pg_outline_text.specs.Source.{Source}
 use Rattle.pg_outline_text.specs.Fault.{Fault, other_version, source_in, behind_version, source_of}
 use Rattle.pg_outline_text.specs.Grammar as g
@@ -75,6 +75,17 @@ own_number_found names k i j u h =
     let found = next_found i l t read in
     takes_one names (number k) i j t found.0 (own_number_in_found k t.kind v fine) (sym (ap (λ (q : Unit {0} × Input). q.1) same) ∙ found.1)))
 
+close_found : (names : NameTable) (i j : Input) (u : Unit {0}) → close names i ≡ Ok (u, j) → Takes names (sign s.CloseBrace ∷ []) 0 i j
+unfolding close
+close_found names i j u h =
+    bind_then (next i) _ (u, j) h (λ t l read rest. let found = next_found i l t read in by t l found.0 found.1 (is_sign s.CloseBrace t.kind) refl rest)
+  where
+    by : (t : Lexeme) (l : Input) → token i.cursor ≡ Ok t → l ≡ record i { cursor = after i.cursor } → (b : Bool) → is_sign s.CloseBrace t.kind ≡ b
+        → ◌≡◌ {A = Outcome (Unit {0})} ((if b then pure tt else refuse t.place (end_fault (named names t))) l) (Ok (u, j)) → Takes names (sign s.CloseBrace ∷ []) 0 i j
+    by t l read at true e g =
+        takes_one names (sign s.CloseBrace) i j t read (is_sign_found s.CloseBrace t.kind e) (sym (ap (λ (q : Unit {0} × Input). q.1) (ok_same (tt, l) (u, j) g)) ∙ at)
+    by t l read at false e g = cc
+
 pub thread_is_found : (names : NameTable) (k : ℕ) (i j : Input) (l : Lines) → thread names k i ≡ Ok (l, j) → IsThread names k i.cursor l j.cursor × (i.room ≡ j.room + 1)
 unfolding thread
 thread_is_found names k i j l h =
@@ -82,10 +93,10 @@ thread_is_found names k i j l h =
     bind_then (and_then (and_then (opened i) (λ u. own_number k)) (λ u. expect s.OpenBrace)) (λ u q. behind q (thread_at names q.cursor)) (a, p) body (λ u q head reads.
     bind_then (and_then (opened i) (λ u. own_number k)) (λ u. expect s.OpenBrace) (u, q) head (λ v m two brace.
     bind_then (opened i) (λ u. own_number k) (v, m) two (λ x o opens owns.
-    bind_then (expect s.CloseBrace p) _ (l, j) rest (λ y n close end.
+    bind_then (close names p) _ (l, j) rest (λ y n ends end.
     behind_then q (thread_at names q.cursor) a p reads (λ c found at.
     let items = takes_then (takes_then (opened_found names i o x opens) (own_number_found names k o m v owns)) (expect_found names s.OpenBrace m q u brace) in
-    let last = expect_found names s.CloseBrace p n y close in
+    let last = close_found names p n y ends in
     subst (λ (z : Lines × Input). IsThread names k i.cursor z.0 z.1.cursor × (i.room ≡ z.1.room + 1)) (ok_same (a, n) (l, j) end) (
       record {
         mid = q.cursor;

@@ -11,11 +11,12 @@ use Rattle.pg_lex.specs.declared.token.TokenKind.TheVariants as kind
 use Rattle.pg_lex.specs.declared.fault.TextKind.{TextKind}
 use Rattle.pg_lex.specs.declared.fault.TextKind.TheVariants.{Unexpected, TooMany}
 use Rattle.pg_lex.specs.Lex.{Lexeme, start}
+use Rattle.pg_program.specs.declared.name_table.NameRef.{NameRef}
 use Rattle.pg_program.specs.NameTable.{NameTable, empty_table}
 use Rattle.pg_assertion.specs.declared.atom.RawAtom.{RawAtom}
 use Rattle.pg_assertion.specs.declared.atom.CrashAtom.{CrashAtom}
 use Rattle.pg_assertion.specs.Formula.{Plain, top}
-use Rattle.pg_assertion_text.specs.Input.{Input, Parser, ◌>>=◌, ◌>>◌, pure, refuse, allowed, peek, next, node, number, expect}
+use Rattle.pg_assertion_text.specs.Input.{Input, Parser, ◌>>=◌, ◌>>◌, pure, refuse, allowed, peek, next, node, number, expect, is_sign, named}
 use Rattle.pg_assertion_text.specs.Atoms.{raw_atom, crash_atom}
 use Rattle.pg_assertion_text.specs.Parsing.{formula_at}
 use Rattle.pg_program_text.specs.Stmt.{behind}
@@ -74,11 +75,22 @@ own_number k = do
   t ← next
   allowed t.place (own_number_in k t.kind)
 
+-- A statement may stand where the last brace does, so that a name which is not declared is unknown there.
+abbrev pub end_fault : Result NameRef TextKind → TextKind
+end_fault (Ok r) = Unexpected
+end_fault (Err why) = why
+
+-- the brace that ends a thread
+unfoldable pub close : NameTable → Parser (Unit {0})
+close names = do
+  t ← next
+  if is_sign s.CloseBrace t.kind then pure tt else refuse t.place (end_fault (named names t))
+
 -- thread k
 unfoldable pub thread : NameTable → ℕ → Parser Lines
 thread names k = do
   l ← (opened >> own_number k >> expect s.OpenBrace >> (λ i. behind i (thread_at names i.cursor)))
-  (expect s.CloseBrace >> pure l)
+  (close names >> pure l)
 
 -- the text ends here
 abbrev pub is_end : TokenKind → Bool

@@ -12,6 +12,8 @@ mod fault;
 mod given;
 pub mod laws;
 mod parse;
+#[cfg(test)]
+mod parse_tests;
 mod source;
 mod thread;
 mod word;

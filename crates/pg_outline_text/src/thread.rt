@@ -7,7 +7,7 @@ ghost use Rattle.pg_outline_text.specs.Reading as spec;
 
 use crate::word::{Keyword, is_keyword};
 use pg_assertion_text::Tokens;
-use pg_assertion_text::tokens::{refused, unexpected};
+use pg_assertion_text::tokens::{is_sign, named, refused, unexpected};
 use pg_lex::{Sign, TextFault, TextKind, TokenKind};
 use pg_program::Names;
 use pg_program_text::{ThreadText, parse_thread};
@@ -41,6 +41,21 @@ fn own_number(tokens: &mut Tokens<'_>, number: u64) -> Result<(), TextFault>
     }
 }
 
+/// Takes the brace that ends a thread. A statement may stand in its place, so that a name which is not declared is unknown there.
+#[tactic(auto, unfolding(crate::specs::Reading::close))]
+fn close(tokens: &mut Tokens<'_>, names: &Names) -> Result<(), TextFault>
+    ensures { Does (λ u. u) (spec.close names.now tokens.old) result tokens.new }
+{
+    let token = tokens.next()?;
+    if is_sign(Sign::CloseBrace, token.kind) {
+        return Ok(());
+    }
+    match named(names, &token) {
+        Ok(_) => Err(unexpected(token.place)),
+        Err(kind) => Err(refused(token.place, kind)),
+    }
+}
+
 /// The thread with this number.
 #[tactic(auto, unfolding(crate::specs::Reading::thread))]
 fn thread(
@@ -57,7 +72,7 @@ fn thread(
     let mut lexer = tokens.lexer();
     let text = parse_thread(alloc, &mut lexer, names)?;
     tokens.go_to(&lexer);
-    tokens.expect(Sign::CloseBrace)?;
+    close(tokens, names)?;
     Ok(text)
 }
 
