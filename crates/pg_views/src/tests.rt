@@ -6,7 +6,6 @@ ghost use Rattle.pg_machine.specs.State.{IsWellFormed};
 ghost use Rattle.pg_machine.specs.Plain.{IsPlain, ArePlain};
 ghost use Rattle.pg_views.specs.Formula.{IsCrashAtom};
 
-use crate::atom::holds_atom;
 use crate::crashes::crash;
 use crate::fault::CrashFault;
 use crate::formula::{holds, holds_crash};
@@ -149,10 +148,10 @@ fn a_load_goes_not_back(rt: HostRuntime) -> Result<(), Fail> {
     Ok(())
 }
 
-/// The sender up to its flush, its last store, and the receiver.
+/// The sender up to its flush, all of it, and the receiver.
 const FLUSHES: [Line; 2] = [(1, None, None), (1, None, None)];
 
-const SENDS: [Line; 1] = [(1, None, None)];
+const SENDS: [Line; 3] = [(1, None, None), (1, None, None), (1, None, None)];
 
 const RECEIVES: [Line; 2] = [(2, Some(2), None), (2, None, None)];
 
@@ -402,7 +401,7 @@ fn hold_alone(s: &State, p: &Program, atoms: &[ViewAtom]) -> bool
     let mut all = true;
     for n in 1..layout.atoms() + 1 {
         let a = layout.atom(n);
-        all = all && holds_atom(s, p, &a) == atoms.contains(&a);
+        all = all && holds(s, p, &Formula::Atom(a)) == atoms.contains(&a);
     }
     all
 }
@@ -412,7 +411,6 @@ fn atoms_hold(rt: HostRuntime) -> Result<(), Fail> {
     let alloc = rt.alloc();
     let p = message(alloc)?;
     let mut state = State::fresh(alloc, &p)?;
-    assert!(rt; follows(&mut state, &p, &FLUSHES));
     assert!(rt; follows(&mut state, &p, &SENDS));
     assert!(rt; hold_alone(&state, &p, &SENT));
     assert!(rt; follows(&mut state, &p, &RECEIVES));
@@ -453,11 +451,15 @@ fn refusal(alloc: Global, s: &State, p: &Program, at: &[u32]) -> Option<CrashFau
     }
 }
 
-/// Whether each line of the table has its fault.
+/// Whether one position is too few, and each line of the table has its fault.
 fn are_refused(alloc: Global, s: &State, p: &Program, lines: &[([u32; 2], CrashFault)]) -> bool
     requires { IsWellFormed p.now s.now.state }
 {
-    let mut all = true;
+    let short = CrashFault::WrongLength {
+        given: 1,
+        wanted: 2,
+    };
+    let mut all = refusal(alloc, s, p, &[1]) == Some(short);
     for (at, wanted) in lines {
         all = all && refusal(alloc, s, p, at) == Some(*wanted);
     }
@@ -473,19 +475,15 @@ fn y_after_x(alloc: Global) -> Result<Formula<CrashAtom>, Fail>
     Ok(Formula::implies(alloc, y, x)?)
 }
 
-#[test]
-fn crashes_have_faults(rt: HostRuntime) -> Result<(), Fail> {
-    let alloc = rt.alloc();
-    let p = message(alloc)?;
-    let mut state = State::fresh(alloc, &p)?;
-    assert!(rt; follows(&mut state, &p, &FLUSHES));
-    assert!(rt; are_refused(alloc, &state, &p, &REFUSED));
-    let short = CrashFault::WrongLength {
-        given: 1,
-        wanted: 2,
-    };
-    assert_eq!(rt; refusal(alloc, &state, &p, &[1]), Some(short));
-    Ok(())
+/// The values of x and y that a crash leaves, and whether x is written if y is.
+fn left(alloc: Global, s: &State, p: &Program, at: &[u32]) -> Result<(u8, u8, bool), Fail>
+    requires formed { IsWellFormed p.now s.now.state }
+    requires few { length at.now < 2 ^ 32 }
+    requires two { length p.now.names.locations ≡ 2 }
+{
+    let memory = crash(alloc, s, p, at)?;
+    let is_ordered = holds_crash(&memory, &[0, 0], &y_after_x(alloc)?);
+    Ok((memory.value(0), memory.value(1), is_ordered))
 }
 
 #[test]
@@ -494,12 +492,7 @@ fn crashes_leave_memories(rt: HostRuntime) -> Result<(), Fail> {
     let p = message(alloc)?;
     let mut state = State::fresh(alloc, &p)?;
     assert!(rt; follows(&mut state, &p, &FLUSHES));
-    assert!(rt; follows(&mut state, &p, &SENDS));
-    let memory = crash(alloc, &state, &p, &[1, 0])?;
-    assert_eq!(rt; memory.value(0), 1);
-    assert_eq!(rt; memory.value(1), 0);
-    assert!(rt; holds_crash(&memory, &[0, 0], &y_after_x(alloc)?));
-    let persists = Formula::Atom(ViewAtom::Persist { x: 0, v: 1 });
-    assert!(rt; holds(&state, &p, &persists));
+    assert!(rt; are_refused(alloc, &state, &p, &REFUSED));
+    assert_eq!(rt; left(alloc, &state, &p, &[1, 0])?, (1, 0, true));
     Ok(())
 }
