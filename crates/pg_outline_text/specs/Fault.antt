@@ -22,14 +22,6 @@ pub data Fault : Type 0 where
   of_program : program.Fault → Fault
   of_outline : OutlineFault → Fault
 
--- the fault that an answer tells, if it is one of the file
-abbrev pub told : FileFault → Option Fault
-told (Text f) = Some (of_text f)
-told (Version n) = Some (other_version n)
-told (Program f) = option_map of_program (program.told f)
-told (Outline f) = Some (of_outline f)
-told NoMemory = None
-
 -- a fault of the tokens is one of the file; want of memory is none
 abbrev pub text_told : TextFault → Option Fault
 text_told (At place kind) = Some (of_text (At place kind))
@@ -42,6 +34,14 @@ outline_told (ValueOutOfDomain v) = Some (of_outline (ValueOutOfDomain v))
 outline_told (UnknownThread t) = Some (of_outline (UnknownThread t))
 outline_told (CrashLocations n) = Some (of_outline (CrashLocations n))
 outline_told (CrashNodes n) = Some (of_outline (CrashNodes n))
+
+-- the fault that an answer tells, if it is one of the file
+abbrev pub told : FileFault → Option Fault
+told (Text f) = text_told f
+told (Version n) = Some (other_version n)
+told (Program f) = option_map of_program (program.told f)
+told (Outline f) = outline_told f
+told NoMemory = None
 
 -- an answer that tells no fault is want of memory
 abbrev pub IsToldOrMemory : FileFault → Type 0
