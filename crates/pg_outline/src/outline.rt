@@ -55,6 +55,7 @@ impl Model for Outline {
 impl Outline {
     ghost use Rattle.pg_outline.specs.Outline.{OutlineTable, IsDraft, draft_of, note_at};
     ghost use Rattle.pg_outline.specs.Fault.{first_fault};
+    ghost use Rattle.pg_outline.specs.Made.{IsOutline};
 
     /// The outline of a program and its formulas, with an assertion for each point of each thread, in the order of the text; or
     /// the first fault of the formulas.
@@ -81,7 +82,8 @@ impl Outline {
 
     /// The program.
     pub fn program(&self) -> &Program
-        ensures { result.now ≡ self.now.program }
+        ensures program { result.now ≡ self.now.program }
+        ensures made { IsOutline self.now }
     {
         &self.program
     }
@@ -116,8 +118,8 @@ impl Outline {
         &self.thread_notes(at.thread)[usize::from(at.point) - 1]
     }
 
-    /// The assertions of a thread's points.
-    fn thread_notes(&self, thread: u8) -> &[Formula<ViewAtom>]
+    /// The assertions of a thread's points, in their order.
+    pub fn thread_notes(&self, thread: u8) -> &[Formula<ViewAtom>]
         requires { (1 ≤ thread) × (thread ≤ length self.now.program.threads) }
         ensures notes { map plain result.now ≡ slice_index_or self.now.notes (thread - 1) [] }
         ensures one_a_point { length result.now ≡ points self.now.program thread }

@@ -8,3 +8,4 @@ pub mod TextComplete
 mod OneDraft
 pub mod ReadyTexts
 mod Answered
+mod SpellingParts

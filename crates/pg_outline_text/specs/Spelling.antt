@@ -15,7 +15,7 @@ use Rattle.pg_outline.specs.Outline.{OutlineTable}
 
 -- ---- names
 
-abbrev pub location_line : List ℕ × ℕ → List ℕ
+unfoldable pub location_line : List ℕ × ℕ → List ℕ
 location_line e = codes "location " ++ (e.0 ++ (codes " = " ++ (decimal e.1 ++ codes ";\n")))
 
 abbrev pub scalar_line : List ℕ × ScalarKind → List ℕ
@@ -34,7 +34,7 @@ is_top (either f g) = false
 is_top (implies f g) = false
 
 -- a formula on a line of its own, behind its word; none for `true`
-abbrev pub given_line : {T : Type 0} → List ℕ → (T → List ℕ) → Plain T → List ℕ
+unfoldable pub given_line : {T : Type 0} → List ℕ → (T → List ℕ) → Plain T → List ℕ
 given_line word of_atom f = if is_top f then [] else word ++ (spell of_atom f ++ codes ";\n")
 
 -- ---- threads
@@ -54,15 +54,18 @@ threads_lines names k (ss ∷ threads) notes = thread_lines names k ss (first_no
 
 -- ---- outlines
 
-abbrev pub head_lines : NameTable → List ℕ
-head_lines names =
-    codes "pierogi 1;\nvalues " ++ (decimal names.domain ++ (codes ";\n"
-    ++ (flat_map location_line names.locations ++ flat_map scalar_line names.scalars)))
+unfoldable pub version_line : List ℕ
+version_line = codes "pierogi 1;\n"
+
+unfoldable pub domain_line : ℕ → List ℕ
+domain_line size = codes "values " ++ (decimal size ++ codes ";\n")
+
+unfoldable pub head_lines : NameTable → List ℕ
+head_lines names = version_line ++ (domain_line names.domain ++ (flat_map location_line names.locations ++ flat_map scalar_line names.scalars))
 
 unfoldable pub spell_outline : OutlineTable → List ℕ
 spell_outline o =
-    let names = o.program.names in
-    head_lines names
-    ++ (given_line (codes "pre ") (spell_atom names) o.pre
-    ++ (given_line (codes "crash ") (spell_crash names) o.crash
-    ++ threads_lines names 1 o.program.threads o.notes))
+    head_lines o.program.names
+    ++ (given_line (codes "pre ") (spell_atom o.program.names) o.pre
+    ++ (given_line (codes "crash ") (spell_crash o.program.names) o.crash
+    ++ threads_lines o.program.names 1 o.program.threads o.notes))

@@ -14,10 +14,12 @@ pub mod laws;
 mod parse;
 #[cfg(test)]
 mod parse_tests;
+mod print;
 mod source;
 mod thread;
 mod word;
 
 pub use fault::FileFault;
 pub use parse::{VERSION, parse_outline};
+pub use print::print_outline;
 pub use thread::MAX_THREADS;
