@@ -35,7 +35,7 @@ each_mapped h (both f g) each = (each_mapped h f each.0, each_mapped h g each.1)
 each_mapped h (either f g) each = (each_mapped h f each.0, each_mapped h g each.1)
 each_mapped h (implies f g) each = (each_mapped h f each.0, each_mapped h g each.1)
 
-same_atoms : {T : Type 0} (f : Plain T) → with_atoms (λ a. a) f ≡ f
+pub same_atoms : {T : Type 0} (f : Plain T) → with_atoms (λ a. a) f ≡ f
 unfolding with_atoms
 same_atoms top = refl
 same_atoms bottom = refl

@@ -9,3 +9,8 @@ mod OneDraft
 pub mod ReadyTexts
 mod Answered
 mod SpellingParts
+mod SpellingLines
+mod SpellingNumbers
+mod SpellingNames
+mod SpellingOutlines
+mod SpellingWritable

@@ -15,6 +15,7 @@ mod parse;
 #[cfg(test)]
 mod parse_tests;
 mod print;
+pub mod print_laws;
 mod source;
 mod thread;
 mod word;

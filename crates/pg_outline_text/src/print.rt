@@ -7,6 +7,7 @@ ghost use Rattle.pg_assertion.specs.Atom.{NamesDeclared, CrashDeclared};
 ghost use Rattle.pg_assertion_text.specs.Spelling.{spell_atom, spell_crash};
 ghost use Rattle.pg_program.specs.Program.{thread_of};
 ghost use Rattle.pg_program.specs.declared.name_table.ScalarKind.TheVariants.{Register, Auxiliary};
+ghost use Rattle.pg_outline.specs.Made.{IsOutline};
 ghost use Rattle.pg_outline_text.specs.Spelling as spec;
 ghost use Rattle.pg_outline_text.specs.SpellingLaws.{IsWritableOutline};
 ghost use Rattle.pg_outline_text.specs.Text.{StandsFor};
@@ -32,7 +33,8 @@ pub fn print_outline(alloc: Global, o: &Outline) -> Result<Vec<u8>, AllocError>
 
 /// Appends the canonical text of an outline.
 fn put_outline(o: &Outline, into: &mut Vec<u8>) -> Result<(), AllocError>
-    ensures { OnOk result (into.new.items ≡ into.old.items ++ spec.spell_outline o.now) }
+    ensures text { OnOk result (into.new.items ≡ into.old.items ++ spec.spell_outline o.now) }
+    ensures made { IsOutline o.now }
 {
     let names = o.program().names();
     put_head(names, into)?;

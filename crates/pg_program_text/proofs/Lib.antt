@@ -12,11 +12,11 @@ pub mod ThreadComplete
 mod Spelling
 mod SpellingTrees
 mod SpellingDeclared
-mod SpellingSigns
+pub mod SpellingSigns
 mod SpellingExprs
-mod SpellingLines
+pub mod SpellingLines
 mod SpellingStmts
-mod SpellingThreads
+pub mod SpellingThreads
 mod Again
 mod Bodies
 pub mod Declared

@@ -18,7 +18,7 @@ past_newline at rest =
 pub record Written (X : Cursor → Cursor → Type 0) (w : List ℕ) : Type 0 where
   pub stands : (from : Cursor) (at : ℕ) (more : List ℕ) → Leads from (cursor at (w ++ more)) → (to : Cursor) × X from to × Leads to (cursor (at + length w) more)
 
-moved_to : (c : Cursor) (n m : ℕ) (more : List ℕ) → n ≡ m → Leads c (cursor n more) → Leads c (cursor m more)
+pub moved_to : (c : Cursor) (n m : ℕ) (more : List ℕ) → n ≡ m → Leads c (cursor n more) → Leads c (cursor m more)
 moved_to c n m more is leads = subst (λ (k : ℕ). Leads c (cursor k more)) is leads
 
 pub empty : {X : Cursor → Cursor → Type 0} → ((from : Cursor) → X from from) → Written X []
@@ -36,7 +36,7 @@ followed {X} {Y} {w} {v} a b = record {
 pub changed : {X Y : Cursor → Cursor → Type 0} {w : List ℕ} → Written X w → ((from to : Cursor) → X from to → Y from to) → Written Y w
 changed a f = record { stands = λ from at more leads. let got = a.stands from at more leads in (got.0, f from got.0 got.1, got.2) }
 
-blank_in_front : {X : Cursor → Cursor → Type 0} {w : List ℕ} → Written X w → Written X (32 ∷ w)
+pub blank_in_front : {X : Cursor → Cursor → Type 0} {w : List ℕ} → Written X w → Written X (32 ∷ w)
 blank_in_front {X} {w} a = record {
   stands = λ from at more leads.
       let further : Leads from (cursor (at + 1) (w ++ more)) = record { same = leads.same ∙ past_blank at (w ++ more) } in
@@ -49,7 +49,7 @@ indented : {X : Cursor → Cursor → Type 0} {w : List ℕ} (depth : ℕ) → W
 indented zero a = a
 indented (suc depth) a = blank_in_front (blank_in_front (indented depth a))
 
-ended : {P : List ℕ → Type 0} {X : Cursor → Cursor → Type 0} {w : List ℕ} → Spells P X w → ((more : List ℕ) → P (10 ∷ more)) → Written X (w ++ codes "\n")
+pub ended : {P : List ℕ → Type 0} {X : Cursor → Cursor → Type 0} {w : List ℕ} → Spells P X w → ((more : List ℕ) → P (10 ∷ more)) → Written X (w ++ codes "\n")
 ended {P} {X} {w} a may = record {
   stands = λ from at more leads.
       let to = cursor (at + length w) (10 ∷ more) in

@@ -34,7 +34,7 @@ use Rattle.pg_program_text.specs.Keywords.{spelling}
 use Rattle.pg_program_text.specs.Thread.{bare}
 use Rattle.pg_program_text.specs.Grammar.{IsNote, IsTest, stmt, lines, IsPart, a_simple, an_if, a_while, an_else, no_else, in_braces, no_lines, a_line, IsBody, last_note, body_line}
 use Rattle.pg_program_text.specs.Spelling.{spell_act, spell_bracket, spell_test, line, note_line, stmt_line, else_line, last_line, spell_block, spell_thread}
-use Rattle.pg_program_text.specs.SpellingLaws.{WholeTest, WholeAct, WholeAssignment, WholeStmt, nesting, ThreadsStand}
+use Rattle.pg_program_text.specs.SpellingLaws.{WholeTest, WholeAct, WholeAssignment, WholeStmt, WholeThread, nesting, ThreadsStand}
 use Rattle.pg_program_text.proofs.Spelling.{all_drop}
 use Rattle.pg_program_text.proofs.SpellingSigns.{open_brace_stands, close_brace_stands, if_stands, else_stands, while_stands}
 use Rattle.pg_program_text.proofs.SpellingLines.{Written, empty, followed, changed, lined}
@@ -290,8 +290,9 @@ last_of (suc n) (f ∷ fs) h =
     let l = last_of n fs (omega arith) in
     record { note = l.note; behind = l.behind; whole = ap (λ (t : Notes). f ∷ t) l.whole }
 
-pub threads_stand : ThreadsStand
-threads_stand names ss notes at more w =
+-- the canonical text of a thread is its body, at each place that leads there
+pub body_written : (names : NameTable) (ss : List Stmt) (notes : Notes) → WholeThread names ss notes → Written (λ from to. IsBody names from ss (raws notes) to) (spell_thread names ss notes)
+body_written names ss notes w =
     let n = size (block ss) in
     let l = last_of n notes w.points in
     let WholeOne = IsWhole formula_laws.IsWritable names in
@@ -302,12 +303,12 @@ threads_stand names ss notes at more w =
     let last_line : Written (λ from to. IsNote names from (with_atoms raw_of l.note) to) (note_line names 1 (drop n notes)) =
     subst (λ (fs : Notes). Written (λ from to. IsNote names from (with_atoms raw_of l.note) to) (note_line names 1 fs)) (sym l.behind) last
     in
-    let all = followed before last_line in
-    let from = cursor at (spell_thread names ss notes ++ more) in
-    let got = all.stands from at more (here from) in
     let are : raws (take n notes) ++ with_atoms raw_of l.note ∷ [] ≡ raws notes = sym (ap raws l.whole ∙ map-append (with_atoms raw_of) (take n notes) (l.note ∷ [])) in
-    record {
-      to = got.0;
-      body = subst (λ (ns : List (Plain RawAtom)). IsBody names from ss ns got.0) are (ended_body (with_atoms raw_of l.note) got.0 refl got.1.1 got.1.2);
-      ends = got.2.same;
-    }
+    changed (followed before last_line)
+    (λ from to way. subst (λ (ns : List (Plain RawAtom)). IsBody names from ss ns to) are (ended_body (with_atoms raw_of l.note) to refl way.1 way.2))
+
+pub threads_stand : ThreadsStand
+threads_stand names ss notes at more w =
+    let from = cursor at (spell_thread names ss notes ++ more) in
+    let got = (body_written names ss notes w).stands from at more (here from) in
+    record { to = got.0; body = got.1; ends = got.2.same }

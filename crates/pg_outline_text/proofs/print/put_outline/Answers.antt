@@ -10,8 +10,8 @@ put_pre-requires c =
     rw (c.names-names.ensures.names, c.program.ensures.program, c.pre.ensures)
     (formula_names c.args.o.now.program.names c.args.o.now.pre c.program.ensures.made.draft.pre.atoms)
 
-pub returns : goal.returns
-returns c =
+pub returns-clause-text : goal.returns-clause-text
+returns-clause-text c =
     let start = c.args.into.now.items in
     let names_is : c.names-names.result.now ≡ c.args.o.now.program.names = c.names-names.ensures.names ∙ ap (λ p. p.names) c.program.ensures.program in
     let head = c.in_ok-put_head.ensures ∙ ap (λ n. start ++ head_lines n) names_is in
