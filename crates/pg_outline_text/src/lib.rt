@@ -4,7 +4,8 @@
 //! grammar of `specs/Grammar.antt`), and exactly that one; a text that stands for none is refused with its first fault
 //! (`specs/Fault.antt`): of its tokens or its version in the order of the text, then of the program, then of the outline.
 //! `print_outline` gives the canonical text of `specs/Spelling.antt`, which stands for the outline again. The laws in `laws` say that a
-//! text stands for one outline at most, and then has no fault.
+//! text stands for one outline at most, and then has no fault; and that a text without a fault is one of the grammar, of which an
+//! outline can be made.
 #![tactic(auto)]
 
 mod declaration;
