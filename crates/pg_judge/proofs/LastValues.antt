@@ -6,9 +6,13 @@ use Rattle.std.proofs.lemmas.List.Elements.{All-head, All-tail, All-get_or, All-
 use Rattle.pg_machine.specs.Memory.{Memory, value_at, last, last_value, message_appended}
 use Rattle.pg_machine.specs.State.{State}
 use Rattle.pg_machine.proofs.Appended.{same_number, last_upto-within, last_value-appended}
+use Rattle.pg_assertion.specs.declared.atom.ViewAtom.{ViewAtom}
+use Rattle.pg_assertion.specs.declared.atom.ViewAtom.TheVariants.{Last}
+use Rattle.pg_assertion.specs.Formula.{Plain, atom, neg, both}
+use Rattle.pg_views.specs.Formula.{holds}
 use Rattle.pg_judge.specs.declared.outline.PathLit.{PathLit}
 use Rattle.pg_judge.specs.Path.{meets, meets_all}
-use Rattle.pg_judge.specs.Meaning.{literal_holds, holds}
+use Rattle.pg_judge.specs.Form.{literal_of, joined, formula_of}
 
 -- ---- the first n values of a function
 
@@ -93,13 +97,41 @@ last_value-stays_below m st d x new old = subst (λ (v : ℕ). v < d) (sym (last
 
 -- ---- assertions
 
+-- the truth of a literal in a state
+abbrev pub literal_holds : State → PathLit → Bool
+literal_holds s l = holds s (literal_of l)
+
 literal-meets : (s : State) (l : PathLit) → l.x < length s.memory.initial → literal_holds s l ≡ meets (last_values s.memory) l
 literal-meets s l lt =
-    ap (λ (a : ℕ). cond l.positive (a == l.v) (not (a == l.v))) (sym (get-values (last_value s.memory) (length s.memory.initial) l.x lt))
+    by l.positive ∙ ap (λ (a : ℕ). cond l.positive (a == l.v) (not (a == l.v))) (sym (get-values (last_value s.memory) (length s.memory.initial) l.x lt))
+  where
+    by : (b : Bool) → holds s (cond b (atom (Last l.x l.v)) (neg (atom (Last l.x l.v)))) ≡ cond b (last_value s.memory l.x == l.v) (not (last_value s.memory l.x == l.v))
+    by true = refl
+    by false = refl
+
+and-assoc : (a b c : Bool) → ((a && b) && c) ≡ (a && (b && c))
+and-assoc true b c = refl
+and-assoc false b c = refl
+
+joined-holds : (s : State) (f : Plain ViewAtom) (ls : List PathLit) → holds s (joined f ls) ≡ (holds s f && list_all (literal_holds s) ls)
+joined-holds s f [] = sym (and-true (holds s f))
+  where
+    and-true : (a : Bool) → (a && true) ≡ a
+    and-true true = refl
+    and-true false = refl
+joined-holds s f (l ∷ ls) = joined-holds s (both f (literal_of l)) ls ∙ and-assoc (holds s f) (literal_holds s l) (list_all (literal_holds s) ls)
+
+-- a conjunction is true where each of its literals is
+pub conjunction-holds : (s : State) (ls : List PathLit) → holds s (formula_of ls) ≡ list_all (literal_holds s) ls
+conjunction-holds s [] = refl
+conjunction-holds s (l ∷ ls) = joined-holds s (literal_of l) ls
+
+literals-meet : (s : State) (ls : List PathLit) → All (λ l. l.x < length s.memory.initial) ls → list_all (literal_holds s) ls ≡ meets_all (last_values s.memory) ls
+literals-meet s [] all = refl
+literals-meet s (l ∷ ls) all =
+    ap (λ (b : Bool). b && list_all (literal_holds s) ls) (literal-meets s l (All-head (λ (k : PathLit). k.x < length s.memory.initial) l ls all))
+    ∙ ap (λ (b : Bool). meets (last_values s.memory) l && b) (literals-meet s ls (All-tail (λ (k : PathLit). k.x < length s.memory.initial) l ls all))
 
 -- an assertion holds in a state where its last values meet it
-pub holds-meets : (s : State) (ls : List PathLit) → All (λ l. l.x < length s.memory.initial) ls → holds s ls ≡ meets_all (last_values s.memory) ls
-holds-meets s [] all = refl
-holds-meets s (l ∷ ls) all =
-    ap (λ (b : Bool). b && list_all (literal_holds s) ls) (literal-meets s l (All-head (λ (k : PathLit). k.x < length s.memory.initial) l ls all))
-    ∙ ap (λ (b : Bool). meets (last_values s.memory) l && b) (holds-meets s ls (All-tail (λ (k : PathLit). k.x < length s.memory.initial) l ls all))
+pub holds-meets : (s : State) (ls : List PathLit) → All (λ l. l.x < length s.memory.initial) ls → holds s (formula_of ls) ≡ meets_all (last_values s.memory) ls
+holds-meets s ls all = conjunction-holds s ls ∙ literals-meet s ls all

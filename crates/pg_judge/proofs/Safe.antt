@@ -1,9 +1,9 @@
 -- An outline whose obligations follow is safe: by induction over executions, the assertion at the thread's point
 -- holds in each state.
-use Rattle.std.proofs.Common.{◌≡◌, ℕ, ◌+◌, ◌-◌, ◌*◌, ◌/◌, ◌%◌, ◌<◌, ◌≤◌, ◌==◌, Bool, true, false, cond, List, [], ◌∷◌, length, get_or, Some, refl, sym, ap, subst, ◌∙◌, arith}
+use Rattle.std.proofs.Common.{◌≡◌, ℕ, ◌+◌, ◌-◌, ◌*◌, ◌/◌, ◌%◌, ◌<◌, ◌≤◌, ◌==◌, Bool, true, false, cond, List, [], ◌∷◌, length, map, get_or, Some, refl, sym, ap, subst, ◌∙◌, arith}
 use Rattle.std.specs.List.{All}
 use Rattle.std.proofs.lemmas.Bool.{ne_eqb}
-use Rattle.std.proofs.lemmas.List.{length-set, get_or-set_same}
+use Rattle.std.proofs.lemmas.List.{length-set, get_or-set_same, get_or-map}
 use Rattle.std.proofs.lemmas.List.Elements.{All-nil, All-cons, All-get_or, All-weaker}
 use Rattle.pg_program.specs.Program.{IsProgram}
 use Rattle.pg_program.specs.NameTable.{initial}
@@ -14,31 +14,40 @@ use Rattle.pg_machine.specs.State.{State, point_of, fresh}
 use Rattle.pg_machine.specs.Step.{IsStep}
 use Rattle.pg_machine.proofs.StoreSteps.{after_store as stored, one_thread, step_stores}
 use Rattle.pg_machine.proofs.WellFormed.{All-constant, fresh_is_well_formed}
+use Rattle.pg_assertion.specs.declared.atom.ViewAtom.{ViewAtom}
+use Rattle.pg_assertion.specs.declared.atom.CrashAtom.{CrashAtom}
+use Rattle.pg_assertion.specs.Formula.{Plain, top}
+use Rattle.pg_views.specs.Formula.{holds}
+use Rattle.pg_views.specs.Crash.{HoldsAtCrash}
+use Rattle.pg_views.specs.Execution.{IsStart, Leads}
+use Rattle.pg_outline.specs.Outline.{OutlineTable, note_at}
 use Rattle.pg_judge.specs.declared.outline.PathLit.{PathLit}
 use Rattle.pg_judge.specs.declared.obligation.PathKind.{PathKind}
 use Rattle.pg_judge.specs.declared.obligation.PathKind.TheVariants.{Fresh, Entry, EntryCrash, Local, Crash}
 use Rattle.pg_judge.specs.Path.{Path, IsPath, IsLit, IsValuation, Considers, AllFollow, meets_all, given, after, goal, note, store, after_store, kind}
-use Rattle.pg_judge.specs.Meaning.{Outline, holds, note_at, IsStart, Leads, IsSafeIn, IsSafe}
+use Rattle.pg_judge.specs.Form.{formula_of}
+use Rattle.pg_judge.specs.Meaning.{IsSafeIn, IsSafe}
 use Rattle.pg_judge.proofs.LastValues.{last_values, length-last_values, last_values-below, last_values-appended, last_values-fresh, last_value-below, last_value-stays_below, holds-meets}
 
 -- the outline is of the form, and these are its parts
-pub record IsOf (o : Outline) (p : Path) : Type 0 where
+pub record IsOf (o : OutlineTable) (p : Path) : Type 0 where
   pub domain : o.program.names.domain ≡ p.domain
   pub initial : initial o.program.names ≡ p.initial
-  pub pre : o.pre ≡ p.pre
-  pub notes : o.notes ≡ p.notes ∷ []
+  pub pre : o.pre ≡ formula_of p.pre
+  pub crash : o.crash ≡ top
+  pub notes : o.notes ≡ map formula_of p.notes ∷ []
   pub stores : straight o.program.threads ≡ Some p.stores
   pub within : All (λ s. (s.0 < length p.initial) × (s.1 < p.domain)) p.stores
   pub path : IsPath p
 
 -- what every state of an execution has
-record Holds (o : Outline) (p : Path) (s : State) : Type 0 where
+record Holds (o : OutlineTable) (p : Path) (s : State) : Type 0 where
   pub initial : s.memory.initial ≡ p.initial
   pub below : (x : ℕ) → x < length s.memory.initial → last_value s.memory x < p.domain
   pub pointed : length s.points ≡ 1
   pub from : 1 ≤ point_of s 1
   pub to : point_of s 1 ≤ length p.notes
-  pub holds : holds s (note p (point_of s 1)) ≡ true
+  pub holds : holds s (formula_of (note p (point_of s 1))) ≡ true
 
 -- ---- obligations
 
@@ -85,7 +94,7 @@ is_valuation p m same below = record { size = length-last_values m ∙ ap length
 
 -- ---- the first state
 
-start : (o : Outline) (p : Path) (s : State) → IsOf o p → AllFollow p → IsStart o s → Holds o p s
+start : (o : OutlineTable) (p : Path) (s : State) → IsOf o p → AllFollow p → IsStart o.program o.pre s → Holds o p s
 start o p s of all h =
     let same = h.formed.memory.initial ∙ of.initial in
     let one = (one_thread o.program.threads p.stores of.stores).0 in
@@ -95,21 +104,21 @@ start o p s of all h =
     λ x lt. subst (λ (d : ℕ). last_value s.memory x < d) of.domain (last_value-below s.memory o.program.names.domain x h.formed.memory.values h.formed.memory.messages lt) in
     let notes = of.path.one_note_a_point in
     let pre : meets_all (last_values s.memory) p.pre ≡ true =
-    sym (holds-meets s p.pre (pre_lits p s of.path same)) ∙ subst (λ (ls : List PathLit). holds s ls ≡ true) of.pre h.pre in
+    sym (holds-meets s p.pre (pre_lits p s of.path same)) ∙ subst (λ (f : Plain ViewAtom). holds s f ≡ true) of.pre h.meets in
     record {
       initial = same;
       below = below;
       pointed = pointed;
       from = omega (arith, at);
       to = omega (arith, at, notes);
-      holds = subst (λ (k : ℕ). holds s (note p k) ≡ true) (sym at)
+      holds = subst (λ (k : ℕ). holds s (formula_of (note p k)) ≡ true) (sym at)
           (holds-meets s (note p 1) (note_lits p s 1 of.path same (omega arith) (omega (arith, notes)))
           ∙ entry_follows p all (last_values s.memory) (is_valuation p s.memory same below) pre);
     }
 
 -- ---- a step
 
-after_step : (o : Outline) (p : Path) (s : State) (k : ℕ) → IsOf o p → AllFollow p → Holds o p s → point_of s 1 ≡ k → k ≤ length p.stores → Holds o p (stored s 1 (store p k) (k + 1))
+after_step : (o : OutlineTable) (p : Path) (s : State) (k : ℕ) → IsOf o p → AllFollow p → Holds o p s → point_of s 1 ≡ k → k ≤ length p.stores → Holds o p (stored s 1 (store p k) (k + 1))
 after_step o p s k of all h at to =
     let next = stored s 1 (store p k) (k + 1) in
     let from : 1 ≤ k = let f = h.from in omega (arith, at, f) in
@@ -119,7 +128,7 @@ after_step o p s k of all h at to =
     let inside : (store p k).0 < length s.memory.initial = let q = st.0 in omega (arith, long, q) in
     let pointed = h.pointed in
     let moves : point_of next 1 ≡ k + 1 = get_or-set_same s.points 0 (k + 1) 0 (omega (arith, pointed)) in
-    let here : holds s (note p k) ≡ true = subst (λ (n : ℕ). holds s (note p n) ≡ true) at h.holds in
+    let here : holds s (formula_of (note p k)) ≡ true = subst (λ (n : ℕ). holds s (formula_of (note p n)) ≡ true) at h.holds in
     let met : meets_all (last_values s.memory) (note p k) ≡ true =
     sym (holds-meets s (note p k) (note_lits p s k of.path h.initial from (omega (arith, notes, to)))) ∙ here in
     let then_met = local_follows p k all from to (last_values s.memory) (is_valuation p s.memory h.initial h.below) met in
@@ -129,12 +138,12 @@ after_step o p s k of all h at to =
       pointed = length-set s.points 0 (k + 1) ∙ pointed;
       from = omega (arith, moves);
       to = omega (arith, moves, notes, to);
-      holds = subst (λ (n : ℕ). holds next (note p n) ≡ true) (sym moves)
+      holds = subst (λ (n : ℕ). holds next (formula_of (note p n)) ≡ true) (sym moves)
           (holds-meets next (note p (k + 1)) (note_lits p next (k + 1) of.path h.initial (omega arith) (omega (arith, notes, to)))
           ∙ (ap (λ (w : List ℕ). meets_all w (note p (k + 1))) (sym (last_values-appended s.memory (store p k) inside)) ∙ then_met));
     }
 
-step : (o : Outline) (p : Path) (s : State) (e : Event) (next : State) → IsOf o p → AllFollow p → Holds o p s → IsStep o.program s e next → Holds o p next
+step : (o : OutlineTable) (p : Path) (s : State) (e : Event) (next : State) → IsOf o p → AllFollow p → Holds o p s → IsStep o.program s e next → Holds o p next
 step o p s e next of all h is =
     let from = h.from in
     let below = All-weaker (λ (t : ℕ × ℕ). (t.0 < length p.initial) × (t.1 < p.domain)) (λ (t : ℕ × ℕ). t.1 < o.program.names.domain) (λ t h. subst (λ (d : ℕ). t.1 < d) (sym of.domain) h.1) p.stores of.within in
@@ -144,24 +153,30 @@ step o p s e next of all h is =
 
 -- ---- executions
 
-is_safe_in : (o : Outline) (p : Path) (s : State) → IsOf o p → Holds o p s → IsSafeIn o s
+note-formula : (p : Path) (k : ℕ) → 1 ≤ k → k ≤ length p.notes → get_or (map formula_of p.notes) (k - 1) top ≡ formula_of (note p k)
+note-formula p k from to = get_or-map formula_of p.notes (k - 1) [] top (omega (arith, from, to))
+
+is_safe_in : (o : OutlineTable) (p : Path) (s : State) → IsOf o p → Holds o p s → IsSafeIn o s
 is_safe_in o p s of h = record {
   assertions = λ t low high.
       let one = (one_thread o.program.threads p.stores of.stores).0 in
       let first : t ≡ 1 = omega (arith, one, low, high) in
+      let from = h.from in
+      let to = h.to in
       subst (λ (n : ℕ). holds s (note_at o n (point_of s n)) ≡ true) (sym first)
-      (subst (λ (notes : List (List (List PathLit))). holds s (get_or (get_or notes 0 []) (point_of s 1 - 1) []) ≡ true) (sym of.notes) h.holds);
-  crash = λ ps choice. refl;
+      (subst (λ (notes : List (List (Plain ViewAtom))). holds s (get_or (get_or notes 0 []) (point_of s 1 - 1) top) ≡ true) (sym of.notes)
+      (subst (λ (f : Plain ViewAtom). holds s f ≡ true) (sym (note-formula p (point_of s 1) (omega (arith, from)) (omega (arith, from, to)))) h.holds));
+  crash = subst (HoldsAtCrash s) (sym of.crash) (λ ps choice. refl);
 }
 
-runs : (o : Outline) (p : Path) → IsOf o p → AllFollow p → (s : State) (events : List Event) (states : List State) → Holds o p s → Leads o.program s events states → All (IsSafeIn o) (s ∷ states)
+runs : (o : OutlineTable) (p : Path) → IsOf o p → AllFollow p → (s : State) (events : List Event) (states : List State) → Holds o p s → Leads o.program s events states → All (IsSafeIn o) (s ∷ states)
 runs o p of all s [] [] h steps = All-cons (IsSafeIn o) s [] (is_safe_in o p s of h) (All-nil (IsSafeIn o))
 runs o p of all s [] (next ∷ states) h steps = absurd steps
 runs o p of all s (e ∷ events) [] h steps = absurd steps
 runs o p of all s (e ∷ events) (next ∷ states) h steps =
     All-cons (IsSafeIn o) s (next ∷ states) (is_safe_in o p s of h) (runs o p of all next events states (step o p s e next of all h steps.0) steps.1)
 
-pub safe : (o : Outline) (p : Path) → IsOf o p → AllFollow p → IsSafe o
+pub safe : (o : OutlineTable) (p : Path) → IsOf o p → AllFollow p → IsSafe o
 safe o p of all = λ first events states execution.
     runs o p of all first events states (start o p first of all execution.start) execution.steps
 
@@ -170,13 +185,13 @@ safe o p of all = λ first events states execution.
 fresh_follows : (p : Path) → AllFollow p → meets_all p.initial p.pre ≡ true
 fresh_follows p all = all 1 (omega arith) (omega arith) p.initial refl refl
 
-pub starts : (o : Outline) (p : Path) → IsOf o p → IsProgram o.program → AllFollow p → IsStart o (fresh o.program)
+pub starts : (o : OutlineTable) (p : Path) → IsOf o p → IsProgram o.program → AllFollow p → IsStart o.program o.pre (fresh o.program)
 starts o p of built all =
     let s = fresh o.program in
     let values : last_values s.memory ≡ p.initial = last_values-fresh (initial o.program.names) ∙ of.initial in
     record {
       formed = fresh_is_well_formed o.program built;
       first = All-constant (λ (k : ℕ). k ≡ 1) 1 o.program.threads refl;
-      pre = subst (λ (ls : List PathLit). holds s ls ≡ true) (sym of.pre)
+      meets = subst (λ (f : Plain ViewAtom). holds s f ≡ true) (sym of.pre)
           (holds-meets s p.pre (pre_lits p s of.path of.initial) ∙ (ap (λ (w : List ℕ). meets_all w p.pre) values ∙ fresh_follows p all));
     }

@@ -5,7 +5,9 @@ use Rattle.pg_judge.specs.declared.judgement.PathJudgement.TheVariants.{Accepted
 use Rattle.pg_judge.specs.Path.{Path, count, AllFollow, IsFirstFailing}
 use Rattle.pg_program.specs.Program.{IsProgram}
 use Rattle.pg_machine.specs.State.{fresh}
-use Rattle.pg_judge.specs.Meaning.{Outline, IsStart, IsSafe}
+use Rattle.pg_views.specs.Execution.{IsStart}
+use Rattle.pg_outline.specs.Outline.{OutlineTable}
+use Rattle.pg_judge.specs.Meaning.{IsSafe}
 
 -- accepted with the number of obligations, where each follows; rejected with the first that does not
 abbrev pub Judges : Path → PathJudgement → Type 0
@@ -19,11 +21,11 @@ number_of (Rejected i) = i
 
 -- what acceptance claims of an outline: its program is well formed, its executions may begin in the fresh state,
 -- and it is safe
-pub record IsProved (o : Outline) : Type 0 where
+pub record IsProved (o : OutlineTable) : Type 0 where
   pub built : IsProgram o.program
-  pub starts : IsStart o (fresh o.program)
+  pub starts : IsStart o.program o.pre (fresh o.program)
   pub safe : IsSafe o
 
-abbrev pub IsProvedIfAccepted : PathJudgement → Outline → Type 0
+abbrev pub IsProvedIfAccepted : PathJudgement → OutlineTable → Type 0
 IsProvedIfAccepted (Accepted n) o = IsProved o
 IsProvedIfAccepted (Rejected i) o = Unit {0}

@@ -1,4 +1,5 @@
 pub mod Judgement
 pub mod Obligation
 pub mod Path
+pub mod Form
 pub mod Meaning

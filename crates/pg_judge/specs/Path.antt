@@ -19,11 +19,11 @@ pub record Path : Type 0 where
 
 abbrev pub path : PathOutline → Path
 path o = record {
-  domain = o.program.names.domain;
-  initial = initial o.program.names;
+  domain = o.program.now.names.domain;
+  initial = initial o.program.now.names;
   pre = o.pre.items;
   notes = map (λ n. n.items) o.notes.items;
-  stores = unwrap_or (straight o.program.threads) [];
+  stores = unwrap_or (straight o.program.now.threads) [];
 }
 
 -- a literal of the outline speaks of one of its locations and of a value of its domain
@@ -39,7 +39,7 @@ pub record IsPath (p : Path) : Type 0 where
 -- the stores of an outline's program are at most 31, to declared locations
 pub record HasStores (o : PathOutline) : Type 0 where
   pub few : length (path o).stores < 32
-  pub declared : All (λ s. s.0 < length (initial o.program.names)) (path o).stores
+  pub declared : All (λ s. s.0 < length (initial o.program.now.names)) (path o).stores
 
 -- a valuation gives each location one value of the domain
 pub record IsValuation (p : Path) (w : List ℕ) : Type 0 where

@@ -24,8 +24,8 @@ pub enum PathJudgement {
 
 /// Judges every obligation, in their order, by trying all valuations, at most 4,096 for each. The program is one
 /// thread of stores of numbers.
-pub fn check_path(alloc: Global, o: &PathOutline) -> Result<PathJudgement, AllocError>
-    requires form { IsSome (straight o.now.program.threads) }
+pub fn check_path(alloc: Global, o: &PathOutline<'_>) -> Result<PathJudgement, AllocError>
+    requires form { IsSome (straight o.now.program.now.threads) }
     requires path { IsPath (path o.now) }
     ensures judged { IfOk result (Judges (path o.now)) }
     ensures safe { IfOk result (λ j. IsProvedIfAccepted j (outline o.now)) }
@@ -36,10 +36,10 @@ pub fn check_path(alloc: Global, o: &PathOutline) -> Result<PathJudgement, Alloc
 }
 
 /// Judges every obligation. The values are the initial ones, and stay so.
-fn judge(o: &PathOutline, values: &mut [u32]) -> PathJudgement
+fn judge(o: &PathOutline<'_>, values: &mut [u32]) -> PathJudgement
     requires path { IsPath (path o.now) }
     requires stores { HasStores o.now }
-    requires initial { values.old ≡ initial o.now.program.names }
+    requires initial { values.old ≡ initial o.now.program.now.names }
     ensures judged { Judges (path o.now) result }
     ensures few { number_of result ≤ 65 }
 {
@@ -65,11 +65,11 @@ fn initial_values(alloc: Global, names: &Names) -> Result<Vec<u32>, AllocError>
 }
 
 /// Whether an obligation follows. The values are the initial ones, and stay so.
-fn follows(o: &PathOutline, i: u32, values: &mut [u32]) -> bool
+fn follows(o: &PathOutline<'_>, i: u32, values: &mut [u32]) -> bool
     requires path { IsPath (path o.now) }
     requires stores { HasStores o.now }
     requires number { (1 ≤ i) × (i ≤ count (path o.now)) }
-    requires initial { values.old ≡ initial o.now.program.names }
+    requires initial { values.old ≡ initial o.now.program.now.names }
     ensures kept { values.new ≡ values.old }
     ensures answer { IsTrue result ↔ Follows (path o.now) i }
 {

@@ -4,7 +4,7 @@
 //! with assertions on last values, are judged exactly. `check_path` accepts where every obligation follows, and
 //! otherwise names the first that does not. What an obligation says, and when it follows, is defined in
 //! `specs/Path.antt`, over all valuations. An outline that is accepted is safe: `specs/Meaning.antt` defines what
-//! that means, over the executions of the machine and the memories that a crash may leave.
+//! that means, over the executions of its program and the memories that a crash may leave.
 #![tactic(auto)]
 
 mod judgement;

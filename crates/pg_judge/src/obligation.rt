@@ -46,7 +46,7 @@ pub struct Obligation<'a> {
 }
 
 /// The parts of the obligation of this kind.
-pub fn parts(o: &PathOutline, kind: PathKind) -> Obligation<'_>
+pub fn parts<'a>(o: &'a PathOutline<'_>, kind: PathKind) -> Obligation<'a>
     requires path { IsPath (path o.now) }
     requires few { length (path o.now).stores < 32 }
     requires statement { HasStatement (path o.now) kind }
@@ -82,7 +82,7 @@ pub fn parts(o: &PathOutline, kind: PathKind) -> Obligation<'_>
 }
 
 /// The assertion of a point.
-fn note(o: &PathOutline, k: u8) -> &[PathLit]
+fn note<'a>(o: &'a PathOutline<'_>, k: u8) -> &'a [PathLit]
     requires { (1 ≤ k) × (k ≤ length o.now.notes.items) }
     ensures { result.now ≡ note (path o.now) k }
 {
@@ -90,7 +90,7 @@ fn note(o: &PathOutline, k: u8) -> &[PathLit]
 }
 
 /// The store of a point.
-fn store(o: &PathOutline, k: u8) -> (u8, u32)
+fn store(o: &PathOutline<'_>, k: u8) -> (u8, u32)
     requires { (1 ≤ k) × (k ≤ length (path o.now).stores) }
     ensures { result ≡ store (path o.now) k }
 {

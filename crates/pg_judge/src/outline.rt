@@ -13,8 +13,8 @@ pub struct PathLit {
 /// An outline of one thread of stores of numbers. A conjunction of literals is their list; the empty one is
 /// `true`. There is one note for each point of the thread, and the crash formula is `true`.
 #[derive(Debug, Drop)]
-pub struct PathOutline {
-    pub program: Program,
+pub struct PathOutline<'a> {
+    pub program: &'a Program,
     pub pre: Vec<PathLit>,
     pub notes: Vec<Vec<PathLit>>,
 }

@@ -64,7 +64,7 @@ fn judged(
     let pre = Vec::from_slice(alloc, pre)?;
     let notes = vec![in alloc; Vec::from_slice(alloc, note)?]?;
     let o = PathOutline {
-        program,
+        program: &program,
         pre,
         notes,
     };
@@ -141,7 +141,7 @@ fn stored(
     let second = Vec::from_slice(alloc, second)?;
     let notes = vec![in alloc; first, second]?;
     let o = PathOutline {
-        program,
+        program: &program,
         pre,
         notes,
     };

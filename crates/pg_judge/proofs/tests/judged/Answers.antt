@@ -7,7 +7,6 @@ use Rattle.pg_program.specs.Program.{ProgramTable}
 use Rattle.pg_program.specs.Straight.{straight}
 use Rattle.pg_program.proofs.StraightLemmas.{straight-threads}
 use Rattle.pg_judge.specs.declared.outline.PathLit.{PathLit}
-use Rattle.pg_judge.specs.declared.outline.PathOutline.{PathOutline}
 use Rattle.pg_judge.proofs.Outlines.{IsWithin, is_path}
 use Rattle.pg_judge.proofs.tests.judged.Goals as goal
 
@@ -25,14 +24,13 @@ build-requires c =
 
 pub check_path-requires : goal.check_path-requires
 check_path-requires c =
-    let o : PathOutline = record { program = c.in_ok-program.program; pre = c.in_ok-pre.pre; notes = c.in_ok-notes.notes } in
     let names = c.args.names in
     let note = c.args.note.now in
     let are = empty c.in_ok-vec.field-0.items c.new.result c.in_ok-vec.ensures.items c.new.ensures.items in
     let built : c.in_ok-program.program ≡ record { names = names; threads = map (λ (v : Vec Stmt Global). v.items) c.in_ok-vec.field-0.items } = c.in_ok-program.ensures.0 in
     record {
       form = subst (λ (p : ProgramTable). IsSome (straight p.threads)) (sym built) (subst (λ (q : Option (List (ℕ × ℕ))). IsSome q) (sym are) refl);
-      path = is_path o names (map (λ (v : Vec Stmt Global). v.items) c.in_ok-vec.field-0.items) [] c.args.pre.now (note ∷ [])
+      path = is_path c.in_ok-program.program names (map (λ (v : Vec Stmt Global). v.items) c.in_ok-vec.field-0.items) [] c.in_ok-pre.pre.items c.args.pre.now (map (λ (v : Vec PathLit Global). v.items) c.in_ok-notes.notes.items) (note ∷ [])
           built are
           c.in_ok-pre.ensures.items
           (ap (map (λ (v : Vec PathLit Global). v.items)) c.in_ok-notes.ensures.items ∙ ap (λ (l : List PathLit). l ∷ []) c.in_ok-from_slice.ensures.items)

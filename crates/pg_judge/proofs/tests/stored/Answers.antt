@@ -7,7 +7,6 @@ use Rattle.pg_program.specs.Program.{ProgramTable}
 use Rattle.pg_program.specs.Straight.{straight}
 use Rattle.pg_program.proofs.StraightLemmas.{straight-threads}
 use Rattle.pg_judge.specs.declared.outline.PathLit.{PathLit}
-use Rattle.pg_judge.specs.declared.outline.PathOutline.{PathOutline}
 use Rattle.pg_judge.proofs.Outlines.{IsWithin, is_path}
 use Rattle.pg_judge.proofs.tests.stored.Goals as goal
 
@@ -25,7 +24,6 @@ build-requires c =
 
 pub check_path-requires : goal.check_path-requires
 check_path-requires c =
-    let o : PathOutline = record { program = c.in_ok-program.program; pre = c.in_ok-pre.pre; notes = c.in_ok-notes.notes } in
     let names : NameTable = c.in_ok-one_location.field-0 in
     let one = c.in_ok-one_location.ensures.0 in
     let two = c.in_ok-one_location.ensures.1 in
@@ -36,7 +34,7 @@ check_path-requires c =
     let built : c.in_ok-program.program ≡ record { names = names; threads = map (λ (v : Vec Stmt Global). v.items) c.in_ok-store_one.field-0.items } = c.in_ok-program.ensures.0 in
     record {
       form = subst (λ (p : ProgramTable). IsSome (straight p.threads)) (sym built) (subst (λ (q : Option (List (ℕ × ℕ))). IsSome q) (sym are) refl);
-      path = is_path o names (map (λ (v : Vec Stmt Global). v.items) c.in_ok-store_one.field-0.items) ((0, 1) ∷ []) c.args.pre.now (first ∷ second ∷ [])
+      path = is_path c.in_ok-program.program names (map (λ (v : Vec Stmt Global). v.items) c.in_ok-store_one.field-0.items) ((0, 1) ∷ []) c.in_ok-pre.pre.items c.args.pre.now (items c.in_ok-notes.notes.items) (first ∷ second ∷ [])
           built are
           c.in_ok-pre.ensures.items
           (ap items c.in_ok-notes.ensures.items ∙ ap (λ (l : List PathLit). l ∷ c.in_ok-second.second.items ∷ []) c.in_ok-first.ensures.items ∙ ap (λ (l : List PathLit). first ∷ l ∷ []) c.in_ok-second.ensures.items)
