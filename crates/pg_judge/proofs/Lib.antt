@@ -5,3 +5,5 @@ pub mod Valuations
 pub mod LastValues
 pub mod Safe
 pub mod Built
+pub mod Conjunctions
+pub mod Found

@@ -15,7 +15,6 @@ use Rattle.pg_machine.specs.Step.{IsStep}
 use Rattle.pg_machine.proofs.StoreSteps.{after_store as stored, one_thread, step_stores}
 use Rattle.pg_machine.proofs.WellFormed.{All-constant, fresh_is_well_formed}
 use Rattle.pg_assertion.specs.declared.atom.ViewAtom.{ViewAtom}
-use Rattle.pg_assertion.specs.declared.atom.CrashAtom.{CrashAtom}
 use Rattle.pg_assertion.specs.Formula.{Plain, top}
 use Rattle.pg_views.specs.Formula.{holds}
 use Rattle.pg_views.specs.Crash.{HoldsAtCrash}

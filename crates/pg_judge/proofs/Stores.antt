@@ -1,5 +1,6 @@
 -- What an outline's program says of its stores and initial values.
-use Rattle.std.proofs.Common.{◌≡◌, ◌∙◌, sym, ap, refl, ℕ, zero, suc, ◌+◌, ◌<◌, ◌≤◌, List, [], ◌∷◌, ◌++◌, length, map, take, get_or, Option, Some, None, option_map, option_and_then, unwrap_or, slice_get, arith}
+use Rattle.std.proofs.Common.{◌≡◌, ◌∙◌, sym, ap, refl, ℕ, zero, suc, ◌+◌, ◌<◌, ◌≤◌, List, [], ◌∷◌, ◌++◌, length, map, take, get_or, Option, Some, None, option_map, option_and_then, unwrap_or, slice_get, is_some, IsSome, ◌&&◌, arith}
+use Rattle.std.specs.List.{list_all}
 use Rattle.pg_program.specs.declared.syntax.Stmt.{Stmt}
 use Rattle.pg_program.specs.Block.{block}
 use Rattle.pg_program.specs.Graph.{size, statements}
@@ -75,3 +76,31 @@ initial_more (l ∷ ls) zero v h = let same : l.1 ≡ v = cc in ap (λ (y : ℕ)
 initial_more (l ∷ ls) (suc x) v h =
     let e : suc x + 1 ≡ suc (x + 1) = omega arith in
     ap (λ (n : ℕ). take n (map (λ (e : List ℕ × ℕ). e.1) (l ∷ ls))) e ∙ ap (λ (r : List ℕ). l.1 ∷ r) (initial_more ls x v h)
+
+-- ---- whether a program is straight
+
+-- each statement of a thread stores a number, where the thread has its stores
+stores_listed : (ss : List Stmt) → list_all (λ s. is_some (store_of s)) ss ≡ is_some (stores_of ss)
+stores_listed [] = refl
+stores_listed (s ∷ ss) = by (store_of s) (stores_of ss) (stores_listed ss)
+  where
+    by : (o : Option (ℕ × ℕ)) (r : Option (List (ℕ × ℕ))) → list_all (λ s. is_some (store_of s)) ss ≡ is_some r
+        → (is_some o && list_all (λ s. is_some (store_of s)) ss) ≡ is_some (option_and_then (λ e. option_map (λ es. e ∷ es) r) o)
+    by None r h = refl
+    by (Some e) None h = h
+    by (Some e) (Some es) h = h
+
+-- and a program of one thread where that thread has them
+pub straight_listed : (ts : List (List Stmt)) → length ts ≡ 1 → list_all (λ s. is_some (store_of s)) (get_or ts 0 []) ≡ is_some (straight ts)
+straight_listed [] one = absurd (omega (arith, one))
+straight_listed (t ∷ []) one = stores_listed t
+straight_listed (t ∷ u ∷ ts) one = absurd (omega (arith, one))
+
+pub straight_alone : (ts : List (List Stmt)) → IsSome (straight ts) → length ts ≡ 1
+straight_alone [] is = cc
+straight_alone (t ∷ []) is = refl
+straight_alone (t ∷ u ∷ ts) is = cc
+
+pub no_items : {X : Type 0} (xs : List X) → length xs ≡ 0 → xs ≡ []
+no_items [] none = refl
+no_items (x ∷ xs) none = absurd (omega (arith, none))

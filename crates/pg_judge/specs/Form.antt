@@ -1,9 +1,14 @@
--- The formulas of the first form: conjunctions of literals on last values.
-use Rattle.std.specs.Prelude.{List, [], ◌∷◌, if◌then◌else◌}
+-- The first form of outlines: one thread of stores of numbers, with conjunctions of literals on last values.
+use Rattle.std.specs.Prelude.{◌≡◌, ◌≤◌, List, [], ◌∷◌, length, All, IsSome, if◌then◌else◌}
 use Rattle.pg_assertion.specs.declared.atom.ViewAtom.{ViewAtom}
 use Rattle.pg_assertion.specs.declared.atom.ViewAtom.TheVariants.{Last}
 use Rattle.pg_assertion.specs.Formula.{Plain, top, atom, neg, both}
+use Rattle.pg_program.specs.Straight.{straight}
+use Rattle.pg_outline.specs.Outline.{OutlineTable}
 use Rattle.pg_judge.specs.declared.outline.PathLit.{PathLit}
+use Rattle.pg_judge.specs.declared.path.TheConstants.{MAX_LITERALS}
+
+-- ---- conjunctions
 
 -- `L(x,v)`, or `!L(x,v)`
 abbrev pub literal_of : PathLit → Plain ViewAtom
@@ -18,3 +23,24 @@ joined f (l ∷ ls) = joined (both f (literal_of l)) ls
 abbrev pub formula_of : List PathLit → Plain ViewAtom
 formula_of [] = top
 formula_of (l ∷ ls) = joined (literal_of l) ls
+
+-- the formula is the conjunction of these literals, which are at most 128
+pub record IsConjunctionOf (f : Plain ViewAtom) (ls : List PathLit) : Type 0 where
+  pub few : length ls ≤ MAX_LITERALS
+  pub is : formula_of ls ≡ f
+
+-- a conjunction of literals
+pub record IsConjunction (f : Plain ViewAtom) : Type 0 where
+  pub literals : List PathLit
+  pub are : IsConjunctionOf f literals
+
+-- ---- outlines
+
+-- an outline of the first form: no scalars, one thread of stores of numbers without brackets, the crash formula `true`, and
+-- conjunctions of literals
+pub record IsOfForm (o : OutlineTable) : Type 0 where
+  pub no_scalars : o.program.names.scalars ≡ []
+  pub stores : IsSome (straight o.program.threads)
+  pub crash : o.crash ≡ top
+  pub pre : IsConjunction o.pre
+  pub notes : All (All IsConjunction) o.notes

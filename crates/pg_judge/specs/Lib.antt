@@ -3,3 +3,4 @@ pub mod Obligation
 pub mod Path
 pub mod Form
 pub mod Meaning
+pub mod Reading

@@ -10,6 +10,7 @@
 mod judgement;
 mod obligation;
 mod outline;
+mod path;
 #[cfg(test)]
 mod tests;
 mod valuation;
@@ -17,3 +18,4 @@ mod valuation;
 pub use judgement::{PathJudgement, check_path};
 pub use obligation::{PathKind, path_kind};
 pub use outline::{PathLit, PathOutline};
+pub use path::{MAX_LITERALS, path_of};
