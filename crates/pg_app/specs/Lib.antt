@@ -1,4 +1,5 @@
 pub mod Line
+pub mod Path
 pub mod Outcome
 pub mod Safety
 pub mod Answer

@@ -2,10 +2,11 @@
 use Rattle.std.specs.Prelude.{◌≡◌, ℕ, ◌<◌, ◌≤◌, List}
 use Rattle.pg_outline.specs.Outline.{OutlineTable}
 use Rattle.pg_judge.specs.Path.{Path, AllFollow, IsFirstFailing, count, kind}
-use Rattle.pg_judge.specs.Form.{IsOfForm, IsPathOf}
+use Rattle.pg_judge.specs.Form.{IsOfForm}
 use Rattle.pg_judge.specs.Judgement.{IsProved}
 use Rattle.pg_app.specs.declared.judge.Outcome.{Outcome}
 use Rattle.pg_app.specs.declared.judge.Outcome.TheVariants.{Accepted, Rejected, NotYet}
+use Rattle.pg_app.specs.Path.{HasPath}
 use Rattle.pg_app.specs.Line.{accepted, rejected, not_yet}
 
 -- an obligation's number, of which there are fewer than 256
@@ -15,7 +16,7 @@ IsNumber i = (1 ≤ i) × (i < 256)
 -- each of the outline's n obligations follows, and it is safe
 pub record IsAcceptance (o : OutlineTable) (n : ℕ) : Type 0 where
   pub path : Path
-  pub is_path : IsPathOf path o
+  pub is_path : HasPath o path
   pub follow : AllFollow path
   pub proved : IsProved o
   pub number : n ≡ count path
@@ -23,7 +24,7 @@ pub record IsAcceptance (o : OutlineTable) (n : ℕ) : Type 0 where
 -- obligation i of the outline is the first that does not follow
 pub record IsRejection (o : OutlineTable) (i : ℕ) : Type 0 where
   pub path : Path
-  pub is_path : IsPathOf path o
+  pub is_path : HasPath o path
   pub fails : IsFirstFailing path i
   pub number : IsNumber i
 

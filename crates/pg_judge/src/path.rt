@@ -21,7 +21,6 @@ pub const MAX_LITERALS: usize = 128;
 /// register and no auxiliary, the crash formula `true`, and in the precondition and at each point a conjunction of at most 128
 /// literals on last values, grouped to the left.
 pub fn path_of<'a>(alloc: Global, o: &'a Outline) -> Result<Option<PathOutline<'a>>, AllocError>
-    requires made { IsOutline o.now }
     ensures { IfOk result (HasPath o.now) }
 {
     let program = o.program();

@@ -14,14 +14,14 @@ returns c =
     let o = c.args.o.now in
     let pre = c.in-Some.pre in
     let notes = c.in-Some-2.notes in
-    let same = c.program-program.ensures in
+    let same = c.program-program.ensures.program in
     let items : Vec PathLit Global → List PathLit = λ v. v.items in
     let read : IsConjunctionOf (plain c.pre.result.now) pre.items = found_some items (IsConjunctionOf (plain c.pre.result.now)) c.in_ok-pre.field-0 pre c.in_ok-pre.ensures c.in-Some.is in
     let rows : AreNotes (get_or o.notes 0 []) (Some (map items notes.items)) =
     subst (λ (r : Option (Vec (Vec PathLit Global) Global)). AreNotes (get_or o.notes 0 []) (option_map (λ (v : Vec (Vec PathLit Global) Global). map items v.items) r)) c.in-Some-2.is c.in_ok-notes.ensures in
     path_found o (record { program = c.program-program.result; pre = pre; notes = notes }) same
     (record {
-      made = c.requires.made;
+      made = c.program-program.ensures.made;
       stores = subst IsStraight same (c.is_straight.ensures.0 c.if-not-is_straight.false);
       crash = sym c.crash.ensures ∙ c.is_true.ensures.0 c.if-not-is_true.false;
       pre = subst (λ (f : Plain ViewAtom). IsConjunctionOf f pre.items) c.pre.ensures read;

@@ -4,4 +4,4 @@ use Rattle.pg_outline.specs.Erasure.{erased}
 use Rattle.pg_outline.proofs.erasure.erase.Goals as goal
 
 pub returns : goal.returns
-returns c = subst (λ (q : ProgramTable). IfOk c.erased_program.result (λ p. p ≡ erased q)) c.program.ensures c.erased_program.ensures
+returns c = subst (λ (q : ProgramTable). IfOk c.erased_program.result (λ p. p ≡ erased q)) c.program.ensures.program c.erased_program.ensures

@@ -1,0 +1,67 @@
+-- An outline has at most one path, and the path that is found of it is that one.
+use Rattle.std.proofs.Common.{◌≡◌, Bool, true, false, List, [], ◌∷◌, ◌++◌, map, Option, Some, None, IsSome, unwrap_or, refl, sym, ap, ap₂, subst, ◌∙◌, append_assoc, ℕ, Vec, Global}
+use Rattle.std.proofs.lemmas.List.{map-map}
+use Rattle.pg_assertion.specs.declared.atom.ViewAtom.{ViewAtom}
+use Rattle.pg_assertion.specs.Formula.{Plain, top, bottom, atom, neg, both, either, implies}
+use Rattle.pg_program.specs.NameTable.{initial}
+use Rattle.pg_program.specs.Straight.{straight}
+use Rattle.pg_outline.specs.Outline.{OutlineTable}
+use Rattle.pg_judge.specs.declared.outline.PathLit.{PathLit}
+use Rattle.pg_judge.specs.declared.outline.PathOutline.{PathOutline}
+use Rattle.pg_judge.specs.Form.{literal_of, joined, formula_of}
+use Rattle.pg_judge.specs.Meaning.{outline}
+use Rattle.pg_judge.specs.Path.{Path, path}
+use Rattle.pg_judge.specs.Reading.{literal_in, IsPathOf}
+use Rattle.pg_app.specs.Path.{HasPath}
+
+-- ---- the literals of a conjunction
+
+listed : Option PathLit → List PathLit
+listed (Some l) = l ∷ []
+listed None = []
+
+literals : Plain ViewAtom → List PathLit
+literals (both f g) = literals f ++ listed (literal_in g)
+literals top = []
+literals bottom = []
+literals (atom a) = listed (literal_in (atom a))
+literals (neg f) = listed (literal_in (neg f))
+literals (either f g) = []
+literals (implies f g) = []
+
+listed_is : (l : PathLit) → listed (literal_in (literal_of l)) ≡ l ∷ []
+listed_is (record { x = x; v = v; positive = true }) = refl
+listed_is (record { x = x; v = v; positive = false }) = refl
+
+literal_is : (l : PathLit) → literals (literal_of l) ≡ l ∷ []
+literal_is (record { x = x; v = v; positive = true }) = refl
+literal_is (record { x = x; v = v; positive = false }) = refl
+
+joined_are : (f : Plain ViewAtom) (ls : List PathLit) → literals (joined f ls) ≡ literals f ++ ls
+joined_are f [] = ?
+joined_are f (l ∷ ls) = joined_are (both f (literal_of l)) ls ∙ ?
+
+literals_are : (ls : List PathLit) → literals (formula_of ls) ≡ ls
+literals_are [] = refl
+literals_are (l ∷ ls) = joined_are (literal_of l) ls ∙ ap (λ (front : List PathLit). front ++ ls) (literal_is l)
+
+-- a formula is the conjunction of one list of literals at most
+same_literals : (ls ms : List PathLit) → formula_of ls ≡ formula_of ms → ls ≡ ms
+same_literals ls ms h = sym (literals_are ls) ∙ (ap literals h ∙ literals_are ms)
+
+same_notes : (ls ms : List (List PathLit)) → map formula_of ls ≡ map formula_of ms → ls ≡ ms
+same_notes [] [] h = refl
+same_notes [] (m ∷ ms) h = cc
+same_notes (l ∷ ls) [] h = cc
+same_notes (l ∷ ls) (m ∷ ms) h =
+    let first : formula_of l ≡ formula_of m = cc in
+    let others : map formula_of ls ≡ map formula_of ms = cc in
+    ap₂ (λ (x : List PathLit) (xs : List (List PathLit)). x ∷ xs) (same_literals l m first) (same_notes ls ms others)
+
+-- ---- paths
+
+same_stores : (o : OutlineTable) (a b : List (ℕ × ℕ)) → straight o.program.threads ≡ Some a → straight o.program.threads ≡ Some b → a ≡ b
+same_stores o a b h k = let same : Some a ≡ Some b = sym h ∙ k in cc
+
+pub one_path : (o : OutlineTable) (p q : Path) → HasPath o p → HasPath o q → p ≡ q
+one_path o p q h k = ?
