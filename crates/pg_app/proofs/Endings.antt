@@ -4,7 +4,8 @@ use Rattle.std.proofs.Math.Seq.{take-length}
 use Rattle.pg_io.specs.Counts.{RoseBy}
 use Rattle.pg_io.specs.Told.{IsTold, IsTooLong}
 use Rattle.pg_io.specs.Written.{appended, AppendsPart}
-use Rattle.pg_app.specs.Answer.{longest_file, too_long, name_of, Answers, IsOverlong, IsAnswered, DefinedFor}
+use Rattle.pg_app.specs.Line.{too_long}
+use Rattle.pg_app.specs.Answer.{longest_file, name_of, Answers, IsOverlong, IsAnswered, DefinedFor}
 use Rattle.pg_app.specs.Put.{Puts}
 use Rattle.pg_app.specs.Safety.{IsSafeText}
 use Rattle.pg_app.specs.Run.{statuses, IsKnown, WritesPart, IsLong, IsJudged, DueFor, Ends}
@@ -59,7 +60,10 @@ due_in_range (Some name) told taken taken_now status text (inr judged) =
       | inl accepted ↦ (0, lit< tt, sym accepted.status_is)
       | inr others ↦ elim others [
         | inl rejected ↦ (1, lit< tt, sym rejected.status_is)
-        | inr refused ↦ (2, lit< tt, sym refused.status_is)
+        | inr others ↦ elim others [
+          | inl other ↦ (2, lit< tt, sym other.status_is)
+          | inr refused ↦ (2, lit< tt, sym refused.status_is)
+        ]
       ]
     ]
 
@@ -142,10 +146,13 @@ ends_safe {name} {told} {faults} {faults_now} {taken} {taken_now} {status} ends 
         | inl whole ↦ elim whole.due [
           | inl long ↦ absurd (omega (arith, is_zero, long.status_is))
           | inr judged ↦ elim judged.answers [
-            | inl accepted ↦ told_safe (told name) judged.bytes judged.told_are (record { source = accepted.source; stands = accepted.stands; safe = accepted.safe })
+            | inl accepted ↦ told_safe (told name) judged.bytes judged.told_are (record { outline = accepted.outline; stands = accepted.stands; proved = accepted.accepts.proved })
             | inr others ↦ elim others [
               | inl rejected ↦ absurd (omega (arith, is_zero, rejected.status_is))
-              | inr refused ↦ absurd (omega (arith, is_zero, refused.status_is))
+              | inr others ↦ elim others [
+                | inl other ↦ absurd (omega (arith, is_zero, other.status_is))
+                | inr refused ↦ absurd (omega (arith, is_zero, refused.status_is))
+              ]
             ]
           ]
         ]

@@ -1,3 +1,5 @@
 mod Accepted
+mod Paths
+mod Faults
 mod Endings
 mod OneAnswer

@@ -1,8 +1,8 @@
 //! Judging an outline. What is promised is that an outcome is the outline's own: accepted where each of its obligations follows,
 //! rejected with the first that does not, and not judged yet where it has not the first form.
 
-ghost use Rattle.std.specs.Prelude.{◌≡◌, IfOk, IsSome};
-ghost use Rattle.pg_program.specs.Straight.{straight};
+ghost use Rattle.std.specs.Prelude.{◌≡◌, IfOk};
+ghost use Rattle.pg_judge.specs.Form.{IsOfForm};
 ghost use Rattle.pg_judge.specs.Meaning.{outline};
 ghost use Rattle.pg_judge.specs.Path.{path, IsPath};
 ghost use Rattle.pg_app.specs.Outcome.{IsOutcome, IsPrintable};
@@ -36,7 +36,7 @@ pub fn judged(alloc: Global, outline: &Outline) -> Result<Outcome, AllocError>
 /// Judges an outline of the first form, by its path.
 fn judged_path(alloc: Global, o: &PathOutline<'_>) -> Result<Outcome, AllocError>
     requires path { IsPath (path o.now) }
-    requires stores { IsSome (straight o.now.program.now.threads) }
+    requires form { IsOfForm (outline o.now) }
     ensures outcome { IfOk result (IsOutcome (outline o.now)) }
     ensures printable { IfOk result IsPrintable }
 {

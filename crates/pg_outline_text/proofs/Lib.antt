@@ -7,7 +7,7 @@ mod HeadComplete
 pub mod TextComplete
 mod OneDraft
 pub mod ReadyTexts
-mod Answered
+pub mod Answered
 mod SpellingParts
 mod SpellingLines
 mod SpellingNumbers

@@ -1,6 +1,6 @@
 -- What the ending of a call says of its status and of what was written.
 use Rattle.std.proofs.Common.{refl}
-use Rattle.pg_app.specs.Answer.{usage}
+use Rattle.pg_app.specs.Line.{usage}
 use Rattle.pg_app.proofs.Endings.{ends_in_range, ends_part, ends_safe, usage_written}
 use Rattle.pg_app.proofs.OneAnswer.{one_answer}
 use Rattle.pg_app.proofs.run.run.Goals as goal
