@@ -14,3 +14,4 @@ mod SpellingNumbers
 mod SpellingNames
 mod SpellingOutlines
 mod SpellingWritable
+mod EmptyThreads

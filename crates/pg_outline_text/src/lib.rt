@@ -17,6 +17,8 @@ mod parse;
 mod parse_tests;
 mod print;
 pub mod print_laws;
+#[cfg(test)]
+mod print_tests;
 mod source;
 mod thread;
 mod word;
