@@ -1,5 +1,5 @@
 -- The words and signs of outlines at the bytes that they are spelled with, and the ends of lines.
-use Rattle.std.proofs.Common.{◌≡◌, ℕ, ◌+◌, List, [], ◌∷◌, ◌++◌, length, refl, subst, arith, append_assoc, length-append, lit≤, lit<}
+use Rattle.std.proofs.Common.{◌≡◌, ℕ, ◌+◌, List, ◌++◌, length, refl, subst, arith, append_assoc, length-append, lit≤, lit<}
 use Rattle.std.specs.Prelude.{codes}
 use Rattle.std.specs.Fmt as fmt
 use Rattle.pg_lex.specs.declared.token.Sign.TheVariants as s

@@ -1,11 +1,9 @@
 -- What the lines of locations and scalars are spelled with declares them: each name is new where it stands.
-use Rattle.std.proofs.Common.{◌≡◌, ℕ, zero, suc, ◌+◌, ◌<◌, ◌≤◌, Bool, true, false, nat_le, List, [], ◌∷◌, ◌++◌, length, Option, Some, None, slice_get, refl, sym, ap, subst, ◌∙◌, arith, append_assoc, length-append}
-use Rattle.std.specs.Prelude.{codes, decimal}
+use Rattle.std.proofs.Common.{◌≡◌, ℕ, ◌≤◌, false, nat_le, List, [], ◌∷◌, ◌++◌, length, Option, Some, None, slice_get, refl, sym, ap, subst, ◌∙◌, arith, append_assoc, length-append}
 use Rattle.std.specs.List.{All, flat_map}
 use Rattle.std.proofs.lemmas.Bool.{lt-leb}
 use Rattle.std.proofs.lemmas.List.{append-nil}
 use Rattle.std.proofs.lemmas.List.Elements.{All-head, All-tail}
-use Rattle.pg_lex.specs.declared.token.Sign.TheVariants as s
 use Rattle.pg_lex.specs.Lex.{Cursor}
 use Rattle.pg_program.specs.declared.name_table.NameKind.{NameKind}
 use Rattle.pg_program.specs.declared.name_table.NameKind.TheVariants as name
@@ -14,10 +12,10 @@ use Rattle.pg_program.specs.declared.name_table.ScalarKind.{ScalarKind}
 use Rattle.pg_program.specs.declared.name_table.ScalarKind.TheVariants.{Register, Auxiliary}
 use Rattle.pg_program.specs.NameTable.{NameTable, IsNameTable, find, found, place_in, is_full, with_name}
 use Rattle.pg_program.proofs.NameLemmas.{place_in-kept}
-use Rattle.pg_assertion_text.specs.Words.{Stands, sign, number, word}
+use Rattle.pg_assertion_text.specs.Words.{word}
 use Rattle.pg_assertion_text.specs.Spelling.{Ends, IsName}
 use Rattle.pg_assertion_text.proofs.Names.{place_within}
-use Rattle.pg_assertion_text.proofs.SpellingTokens.{Spells, Then, mapped, word_stands, equal_stands}
+use Rattle.pg_assertion_text.proofs.SpellingTokens.{Spells, mapped, word_stands, equal_stands}
 use Rattle.pg_assertion_text.proofs.SpellingAtoms.{number_spells}
 use Rattle.pg_program_text.proofs.SpellingLines.{Written, empty, followed, changed, blank_in_front}
 use Rattle.pg_outline_text.specs.declared.word.Keyword.TheVariants as w

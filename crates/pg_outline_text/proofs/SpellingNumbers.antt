@@ -1,13 +1,11 @@
 -- The numbers of a program without a fault are small.
-use Rattle.std.proofs.Common.{◌≡◌, ℕ, ◌+◌, ◌<◌, ◌≤◌, ◌^◌, Bool, true, false, cond, ◌&&◌, nat_le, List, [], ◌∷◌, length, map, Option, Some, None, option_map, refl, arith, lit≤}
+use Rattle.std.proofs.Common.{◌≡◌, ℕ, ◌<◌, ◌≤◌, ◌^◌, Bool, true, false, cond, ◌&&◌, nat_le, List, [], ◌∷◌, length, map, Option, Some, None, option_map, refl, arith}
 use Rattle.std.specs.List.{All}
 use Rattle.std.proofs.lemmas.Bool.{leb-true}
 use Rattle.std.proofs.lemmas.List.Elements.{All-nil, All-cons, All-head, All-tail}
 use Rattle.pg_program.specs.declared.name_table.ScalarKind.{ScalarKind}
 use Rattle.pg_program.specs.declared.name_table.ScalarKind.TheVariants.{Register, Auxiliary}
-use Rattle.pg_program.specs.declared.syntax.Stmt.{Stmt}
-use Rattle.pg_program.specs.Fault.{Fault, first_of, domain_size, unknown_thread, domain_fault, unknown_owner, first_fault}
-use Rattle.pg_program.specs.NameTable.{NameTable}
+use Rattle.pg_program.specs.Fault.{Fault, first_of, domain_size, unknown_thread, domain_fault, unknown_owner}
 use Rattle.pg_program.specs.Program.{ProgramTable, IsProgram}
 use Rattle.pg_program.proofs.ProgramLemmas.{faultless, initial_inside}
 

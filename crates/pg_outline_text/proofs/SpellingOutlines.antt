@@ -1,9 +1,8 @@
 -- The canonical text of an outline is in the grammar, and stands for the outline.
-use Rattle.std.proofs.Common.{◌≡◌, ℕ, zero, suc, ◌+◌, ◌<◌, ◌≤◌, ◌^◌, Bool, true, false, List, [], ◌∷◌, ◌++◌, length, drop, map, None, refl, sym, ap, ap₂, subst, ◌∙◌, arith, append_assoc}
+use Rattle.std.proofs.Common.{◌≡◌, ℕ, suc, ◌+◌, ◌≤◌, Bool, true, false, List, [], ◌∷◌, ◌++◌, length, drop, map, refl, sym, ap, ap₂, subst, ◌∙◌, arith, append_assoc}
 use Rattle.std.specs.Prelude.{codes, if◌then◌else◌}
 use Rattle.std.proofs.lemmas.List.{append-nil, length-map}
 use Rattle.pg_lex.specs.declared.token.Sign.TheVariants as s
-use Rattle.pg_lex.specs.declared.token.TokenKind.{TokenKind}
 use Rattle.pg_lex.specs.declared.token.TokenKind.TheVariants as kind
 use Rattle.pg_lex.specs.Piece.{piece}
 use Rattle.pg_lex.specs.Lex.{Cursor, Lexeme, token, lexeme_at, start}
@@ -25,8 +24,7 @@ use Rattle.pg_assertion_text.specs.Follows.{Stops}
 use Rattle.pg_assertion_text.specs.Atoms.{IsRaw, IsCrash}
 use Rattle.pg_assertion_text.specs.Grammar.{Is, formula}
 use Rattle.pg_assertion_text.specs.Spelling.{Ends, spell, spell_atom, spell_crash, opens, rule_of}
-use Rattle.pg_assertion_text.specs.SpellingLaws.{cursor, IsWritable, IsWritableCrash}
-use Rattle.pg_assertion_text.specs.Within.{IsWithin}
+use Rattle.pg_assertion_text.specs.SpellingLaws.{cursor}
 use Rattle.pg_assertion_text.proofs.SpellingTokens.{Spells, Then, Leads, mapped}
 use Rattle.pg_assertion_text.proofs.SpellingAtoms.{IsSpelled, number_spells, raw_spelled, crash_spelled}
 use Rattle.pg_assertion_text.proofs.Spelling.{spells, loosened, at_most, each_mapped, nodes-with_atoms, same_atoms}
@@ -34,22 +32,19 @@ use Rattle.pg_program_text.specs.declared.thread.TheConstants.{MAX_POINTS}
 use Rattle.pg_program_text.specs.Keywords as keywords
 use Rattle.pg_program_text.specs.Thread.{Lines, begins}
 use Rattle.pg_program_text.specs.Grammar.{BeginsNone}
-use Rattle.pg_program_text.specs.Spelling.{spell_thread}
 use Rattle.pg_program_text.specs.ReadAgain.{lines_of}
 use Rattle.pg_program_text.proofs.SpellingLines.{Written, empty, followed, changed, blank_in_front}
 use Rattle.pg_program_text.proofs.SpellingThreads.{body_written}
 use Rattle.pg_outline.specs.Outline.{OutlineTable, Draft, draft_of}
 use Rattle.pg_outline.specs.Made.{IsOutline}
 use Rattle.pg_outline.specs.Fault as outline_fault
-use Rattle.pg_outline_text.specs.declared.thread.TheConstants.{MAX_THREADS}
 use Rattle.pg_outline_text.specs.declared.word.Keyword.{Keyword}
 use Rattle.pg_outline_text.specs.declared.word.Keyword.TheVariants as w
 use Rattle.pg_outline_text.specs.Word.{spelling}
 use Rattle.pg_outline_text.specs.Source.{Source, draft, IsMadeOf}
-use Rattle.pg_outline_text.specs.Grammar.{keyword, AreDeclarations, IsGiven, left_out, written, IsEnd, IsThread, AreThreads, last_one, one_thread, IsSourceText}
+use Rattle.pg_outline_text.specs.Grammar.{keyword, AreDeclarations, IsGiven, left_out, written, IsEnd, IsThread, AreThreads, last_one, one_thread}
 use Rattle.pg_outline_text.specs.Spelling.{is_top, given_line, thread_lines, first_notes, threads_lines, version_line, domain_line, head_lines, spell_outline}
 use Rattle.pg_outline_text.specs.SpellingLaws.{FitsThread, FitThreads, IsWritableOutline, CanonicalTextStands}
-use Rattle.pg_outline_text.specs.Text.{StandsFor}
 use Rattle.pg_outline_text.proofs.SpellingLines.{before, keyword_stands, one_stands, semicolon_line, open_line, close_line}
 use Rattle.pg_outline_text.proofs.SpellingNumbers.{Small, domain_small, initial_small, owners_fit}
 use Rattle.pg_outline_text.proofs.SpellingNames.{names_written}

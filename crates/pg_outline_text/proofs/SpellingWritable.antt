@@ -1,6 +1,6 @@
 -- Each outline that a text stands for is within the limits of a text: its names are names of the grammar, since each was a word
 -- of the text, and its formulas and threads are what stands in the text.
-use Rattle.std.proofs.Common.{◌≡◌, ℕ, ◌+◌, ◌≤◌, List, [], ◌∷◌, ◌++◌, length, map, refl, sym, ap, subst, ◌∙◌, arith, lit≤}
+use Rattle.std.proofs.Common.{◌≡◌, ℕ, ◌+◌, ◌≤◌, List, [], ◌∷◌, ◌++◌, length, map, sym, ap, subst, ◌∙◌, arith, lit≤}
 use Rattle.std.specs.List.{All}
 use Rattle.std.proofs.lemmas.List.{length-map}
 use Rattle.std.proofs.lemmas.List.Elements.{All-nil, All-cons, All-append}
@@ -28,11 +28,9 @@ use Rattle.pg_assertion_text.proofs.Within.{formulas_are_within, crash_formulas_
 use Rattle.pg_program_text.specs.declared.thread.TheConstants.{MAX_POINTS}
 use Rattle.pg_program_text.specs.Thread.{Lines}
 use Rattle.pg_program_text.proofs.Whole.{bodies_are_whole}
-use Rattle.pg_outline.specs.Outline.{OutlineTable}
 use Rattle.pg_outline_text.specs.declared.word.Keyword.{Keyword}
 use Rattle.pg_outline_text.specs.Grammar.{IsNewName, IsDeclaration, a_location, a_register, an_auxiliary, AreDeclarations, no_more, one_more, IsGiven, left_out, written, IsThread, AreThreads, last_one, one_thread}
-use Rattle.pg_outline_text.specs.SpellingLaws.{FitsThread, FitThreads, IsWritableOutline, WhatStandsIsWritable}
-use Rattle.pg_outline_text.specs.Text.{StandsFor}
+use Rattle.pg_outline_text.specs.SpellingLaws.{FitsThread, FitThreads, WhatStandsIsWritable}
 
 -- ---- names
 

@@ -7,7 +7,6 @@ use Rattle.pg_program.specs.declared.name_table.ScalarKind.TheVariants.{Register
 use Rattle.pg_program.specs.declared.syntax.Stmt.{Stmt}
 use Rattle.pg_program.specs.NameTable.{NameTable}
 use Rattle.pg_assertion.specs.declared.atom.ViewAtom.{ViewAtom}
-use Rattle.pg_assertion.specs.declared.atom.CrashAtom.{CrashAtom}
 use Rattle.pg_assertion.specs.Formula.{Plain, top, bottom, atom, neg, both, either, implies}
 use Rattle.pg_assertion_text.specs.Spelling.{spell, spell_atom, spell_crash}
 use Rattle.pg_program_text.specs.Spelling.{spell_thread}

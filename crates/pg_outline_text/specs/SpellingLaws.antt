@@ -1,7 +1,5 @@
 -- The laws of the canonical text: it stands for its outline, and each outline that a text stands for can be written so.
-use Rattle.std.specs.Prelude.{◌≡◌, ℕ, ◌^◌, ◌<◌, ◌≤◌, List, [], ◌∷◌, length, All}
-use Rattle.pg_program.specs.declared.name_table.ScalarKind.{ScalarKind}
-use Rattle.pg_program.specs.declared.name_table.ScalarKind.TheVariants.{Register, Auxiliary}
+use Rattle.std.specs.Prelude.{ℕ, ◌≤◌, List, [], ◌∷◌, length}
 use Rattle.pg_program.specs.declared.syntax.Stmt.{Stmt}
 use Rattle.pg_program.specs.NameTable.{NameTable}
 use Rattle.pg_assertion.specs.declared.atom.ViewAtom.{ViewAtom}
@@ -13,7 +11,7 @@ use Rattle.pg_program_text.specs.declared.thread.TheConstants.{MAX_POINTS}
 use Rattle.pg_program_text.specs.SpellingLaws.{WholeThread}
 use Rattle.pg_outline.specs.Outline.{OutlineTable}
 use Rattle.pg_outline.specs.Made.{IsOutline}
-use Rattle.pg_outline_text.specs.Spelling.{first_notes, spell_outline}
+use Rattle.pg_outline_text.specs.Spelling.{spell_outline}
 use Rattle.pg_outline_text.specs.Text.{StandsFor}
 
 -- a thread within the limits of a text
