@@ -5,8 +5,7 @@
 //! (`specs/Fault.antt`): of its tokens or its version in the order of the text, then of the program, then of the outline.
 //! `print_outline` gives the canonical text of `specs/Spelling.antt`, which stands for the outline again. The laws in `laws` say that a
 //! text stands for one outline at most, and then has no fault; and that a text without a fault is one of the grammar, of which an
-//! outline can be made.
-//! text stands for one outline at most, and then has no fault. Those in `print_laws` say that the canonical text of an outline within
+//! outline can be made. Those in `print_laws` say that the canonical text of an outline within
 //! the limits of a text stands for it, and that each outline which a text stands for is within them.
 #![tactic(auto)]
 
