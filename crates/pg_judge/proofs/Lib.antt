@@ -7,3 +7,4 @@ pub mod Safe
 pub mod Built
 pub mod Conjunctions
 pub mod Found
+pub mod Trues

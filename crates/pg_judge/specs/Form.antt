@@ -6,7 +6,6 @@ use Rattle.pg_assertion.specs.Formula.{Plain, top, atom, neg, both}
 use Rattle.pg_program.specs.Straight.{straight}
 use Rattle.pg_outline.specs.Outline.{OutlineTable}
 use Rattle.pg_judge.specs.declared.outline.PathLit.{PathLit}
-use Rattle.pg_judge.specs.declared.path.TheConstants.{MAX_LITERALS}
 
 -- ---- conjunctions
 
@@ -26,7 +25,7 @@ formula_of (l ∷ ls) = joined (literal_of l) ls
 
 -- the formula is the conjunction of these literals, which are at most 128
 pub record IsConjunctionOf (f : Plain ViewAtom) (ls : List PathLit) : Type 0 where
-  pub few : length ls ≤ MAX_LITERALS
+  pub few : length ls ≤ 128
   pub is : formula_of ls ≡ f
 
 -- a conjunction of literals
