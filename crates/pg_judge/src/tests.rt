@@ -295,3 +295,48 @@ fn finds_conjunctions(rt: HostRuntime) -> Result<(), Fail> {
     }
     Ok(())
 }
+
+/// One location, and a register if it is wanted.
+fn declared(alloc: Global, register: bool) -> Result<Names, Fail>
+    ensures { IfOk result (λ n. length n.locations ≡ 1) }
+{
+    let mut names = one_location(alloc)?;
+    if register {
+        names.declare("a", NameKind::Register { owner: 1 })?;
+    }
+    Ok(names)
+}
+
+/// `x = 0`, if it is wanted, and else `true`.
+fn crash_formula(wanted: bool) -> Formula<CrashAtom>
+    ensures nodes { nodes (plain result) ≡ 1 }
+    ensures names { (t : NameTable) → 1 ≤ length t.locations → AllAtoms (CrashDeclared t) (plain result) }
+{
+    if wanted {
+        Formula::Atom(CrashAtom::Location { x: 0, v: 0 })
+    } else {
+        Formula::True
+    }
+}
+
+/// Whether the outline of one store has a path, with a register or a crash formula if they are wanted.
+fn is_found_beside(alloc: Global, register: bool, crash: bool) -> Result<bool, Fail> {
+    has_path(
+        alloc,
+        declared(alloc, register)?,
+        store_one(alloc)?,
+        Formula::True,
+        crash_formula(crash),
+    )
+}
+
+#[test]
+fn finds_nothing_beside_registers_and_crash_formulas(rt: HostRuntime) -> Result<(), Fail> {
+    for (register, crash) in [(false, false), (true, false), (false, true)] {
+        assert_eq!(rt;
+            is_found_beside(rt.alloc(), register, crash)?,
+            !register && !crash
+        );
+    }
+    Ok(())
+}
