@@ -1,14 +1,14 @@
 -- How the parts of a call end the whole, and what an ending says.
 use Rattle.std.proofs.Common.{◌≡◌, ℕ, ◌<◌, ◌≤◌, ◌⊎◌, inl, inr, List, length, Option, None, Some, IfSome, IsSome, IsSomeAnd, Contains, sym, subst, ◌∙◌, arith, lit<}
 use Rattle.std.proofs.Math.Seq.{take-length}
-use Rattle.pg_io.specs.Counts.{RoseBy}
+use Rattle.pg_io.specs.Counts.{Rose, RoseBy}
 use Rattle.pg_io.specs.Told.{IsTold, IsTooLong}
 use Rattle.pg_io.specs.Written.{appended, AppendsPart}
 use Rattle.pg_app.specs.Line.{too_long}
 use Rattle.pg_app.specs.Answer.{longest_file, name_of, Answers, IsOverlong, IsAnswered, DefinedFor}
 use Rattle.pg_app.specs.Put.{Puts}
 use Rattle.pg_app.specs.Safety.{IsSafeText}
-use Rattle.pg_app.specs.Run.{statuses, IsKnown, WritesPart, IsLong, IsJudged, DueFor, Ends}
+use Rattle.pg_app.specs.Run.{statuses, IsAnswer, IsKnown, Writes, WritesPart, IsLong, IsJudged, DueFor, Ends}
 use Rattle.std.specs.Prelude.{String}
 use Rattle.std.specs.declared.alloc.Global.{Global}
 
@@ -123,6 +123,38 @@ ends_part {told} {faults} {faults_now} {taken} {taken_now} {status} {old} {new} 
         ]
       ]
       | inr unfetched ↦ inl unfetched.kept
+    ]
+
+-- an answer is a defined one, and its whole text was written
+pub ends_defined : {told : List ℕ → Option (List ℕ)} {faults faults_now : List ℕ → ℕ} {taken taken_now status : ℕ} {old new : Option (List ℕ)} {before now : ℕ} (words : List (String Global)) → Ends (name_of words) told faults faults_now taken taken_now status old new before now → IsKnown (name_of words) told → IsAnswer status → Writes words told status old new
+ends_defined {told} {faults} {faults_now} {taken} {taken_now} {status} words ends known answer =
+    elim ends.how [
+      | inl puts ↦ elim puts [
+        | inl whole ↦ record { text = whole.text; defined = due_defined (name_of words) told taken taken_now status whole.text known whole.due; written = whole.written }
+        | inr others ↦ elim others [
+          | inl cut ↦ absurd (answer.put cut.status_is)
+          | inr spent ↦ absurd (answer.roomy spent.status_is)
+        ]
+      ]
+      | inr unfetched ↦ absurd (answer.fetched unfetched.status_is)
+    ]
+
+not_risen : {A : Type 0} (o : Option A) (P : A → Type 0) → IsSomeAnd o P → IfSome o (λ a. ¬ P a) → ⊥
+not_risen None P h k = h
+not_risen (Some a) P h k = k h
+
+-- where no count of faults rose, there is an answer, or memory ran out
+pub ends_complete : {told : List ℕ → Option (List ℕ)} {faults faults_now : List ℕ → ℕ} {taken taken_now status : ℕ} {old new : Option (List ℕ)} {before now : ℕ} (words : List (String Global)) → Ends (name_of words) told faults faults_now taken taken_now status old new before now → IsKnown (name_of words) told → IfSome (name_of words) (λ name. ¬ Rose (faults name) (faults_now name)) → ¬ Rose before now → Writes words told status old new ⊎ (status ≡ 9)
+ends_complete {told} {faults} {faults_now} {taken} {taken_now} {status} words ends known read calm =
+    elim ends.how [
+      | inl puts ↦ elim puts [
+        | inl whole ↦ inl (record { text = whole.text; defined = due_defined (name_of words) told taken taken_now status whole.text known whole.due; written = whole.written })
+        | inr others ↦ elim others [
+          | inl cut ↦ absurd (calm cut.rose)
+          | inr spent ↦ inr spent.status_is
+        ]
+      ]
+      | inr unfetched ↦ absurd (not_risen (name_of words) (λ n. Rose (faults n) (faults_now n)) unfetched.rose read)
     ]
 
 -- words that are not a command, whose status is the answer, are told how to use the program

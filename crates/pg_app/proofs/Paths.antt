@@ -30,21 +30,34 @@ literals (neg f) = listed (literal_in (neg f))
 literals (either f g) = []
 literals (implies f g) = []
 
+literal : ℕ → ℕ → Bool → PathLit
+literal x v positive = record { x = x; v = v; positive = positive }
+
 listed_is : (l : PathLit) → listed (literal_in (literal_of l)) ≡ l ∷ []
-listed_is (record { x = x; v = v; positive = true }) = refl
-listed_is (record { x = x; v = v; positive = false }) = refl
+unfolding listed literal
+listed_is l = by l.positive
+  where
+    by : (b : Bool) → listed (literal_in (literal_of (literal l.x l.v b))) ≡ literal l.x l.v b ∷ []
+    by true = refl
+    by false = refl
 
 literal_is : (l : PathLit) → literals (literal_of l) ≡ l ∷ []
-literal_is (record { x = x; v = v; positive = true }) = refl
-literal_is (record { x = x; v = v; positive = false }) = refl
+unfolding literals listed literal
+literal_is l = by l.positive
+  where
+    by : (b : Bool) → literals (literal_of (literal l.x l.v b)) ≡ literal l.x l.v b ∷ []
+    by true = refl
+    by false = refl
 
 joined_are : (f : Plain ViewAtom) (ls : List PathLit) → literals (joined f ls) ≡ literals f ++ ls
+unfolding literals
 joined_are f [] = sym (append-nil (literals f))
 joined_are f (l ∷ ls) =
     joined_are (both f (literal_of l)) ls
     ∙ (ap (λ (one : List PathLit). (literals f ++ one) ++ ls) (listed_is l) ∙ append_assoc (literals f) (l ∷ []) ls)
 
 literals_are : (ls : List PathLit) → literals (formula_of ls) ≡ ls
+unfolding literals
 literals_are [] = refl
 literals_are (l ∷ ls) = joined_are (literal_of l) ls ∙ ap (λ (front : List PathLit). front ++ ls) (literal_is l)
 
@@ -73,6 +86,7 @@ made : ℕ → List ℕ → List PathLit → List (List PathLit) → List (ℕ �
 made domain initial pre notes stores = record { domain = domain; initial = initial; pre = pre; notes = notes; stores = stores }
 
 pub one_path : (o : OutlineTable) (p q : Path) → HasPath o p → HasPath o q → p ≡ q
+unfolding made
 one_path o p q h k =
     let notes = same_notes p.notes q.notes (first_row (map formula_of p.notes) (map formula_of q.notes) (h.notes ∙ sym k.notes)) in
     ap (λ d. made d p.initial p.pre p.notes p.stores) (h.domain ∙ sym k.domain)

@@ -1,7 +1,7 @@
 -- What the ending of a call says of its status and of what was written.
 use Rattle.std.proofs.Common.{refl}
 use Rattle.pg_app.specs.Line.{usage}
-use Rattle.pg_app.proofs.Endings.{ends_in_range, ends_part, ends_safe, usage_written}
+use Rattle.pg_app.proofs.Endings.{ends_in_range, ends_defined, ends_part, ends_complete, ends_safe, usage_written}
 use Rattle.pg_app.proofs.OneAnswer.{one_answer}
 use Rattle.pg_app.proofs.run.run.Goals as goal
 
@@ -11,6 +11,14 @@ returns-in-Some-clause-range g c = ends_in_range c.check.ensures.ends
 pub returns-in-Some-clause-part : goal.returns-in-Some-clause-part
 returns-in-Some-clause-part g c = λ known cut.
     ends_part c.args.words.now (rw c.in-Some.ensures at c.check.ensures.ends) known
+
+pub returns-in-Some-clause-defined : goal.returns-in-Some-clause-defined
+returns-in-Some-clause-defined g c = λ known answer.
+    ends_defined c.args.words.now (rw c.in-Some.ensures at c.check.ensures.ends) known answer
+
+pub returns-in-Some-clause-complete : goal.returns-in-Some-clause-complete
+returns-in-Some-clause-complete g c = λ known read calm.
+    ends_complete c.args.words.now (rw c.in-Some.ensures at c.check.ensures.ends) known read calm
 
 pub returns-in-None-clause-usage : goal.returns-in-None-clause-usage
 returns-in-None-clause-usage g c = λ is_usage.
