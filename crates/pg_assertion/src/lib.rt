@@ -7,12 +7,8 @@
 
 mod atom;
 mod expansion;
-#[cfg(test)]
-mod expansion_tests;
 mod formula;
 mod layout;
-#[cfg(test)]
-mod layout_tests;
 
 pub use atom::{CrashAtom, RawAtom, ViewAtom};
 pub use expansion::{

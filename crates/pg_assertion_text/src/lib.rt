@@ -16,11 +16,7 @@ mod atoms;
 mod formula;
 pub mod laws;
 mod parse;
-#[cfg(test)]
-mod parse_tests;
 mod print;
-#[cfg(test)]
-mod print_tests;
 pub mod tokens;
 
 pub use atoms::ReadAtom;

@@ -12,8 +12,6 @@ mod judgement;
 mod obligation;
 mod outline;
 mod path;
-#[cfg(test)]
-mod tests;
 mod valuation;
 
 pub use judgement::{PathJudgement, check_path};

@@ -7,7 +7,6 @@ pub mod Appended
 pub mod Faults
 pub mod ViewsKept
 pub mod WellFormed
-pub mod Plain
 pub mod ViewLaws
 pub mod StoreSteps
 pub mod Reached

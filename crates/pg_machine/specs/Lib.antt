@@ -4,4 +4,3 @@ pub mod Moves
 pub mod Step
 pub mod Fault
 pub mod Held
-pub mod Plain

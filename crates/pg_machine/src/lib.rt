@@ -17,8 +17,6 @@ mod messages;
 mod positions;
 mod row;
 mod state;
-#[cfg(test)]
-mod tests;
 mod views;
 
 pub use event::Event;

@@ -8,8 +8,6 @@
 #![tactic(auto)]
 
 mod erasure;
-#[cfg(test)]
-mod erasure_tests;
 mod fault;
 pub mod laws;
 mod outline;

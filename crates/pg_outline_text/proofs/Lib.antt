@@ -14,4 +14,3 @@ mod SpellingNumbers
 mod SpellingNames
 mod SpellingOutlines
 mod SpellingWritable
-mod EmptyThreads

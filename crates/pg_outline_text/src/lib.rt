@@ -14,12 +14,8 @@ mod fault;
 mod given;
 pub mod laws;
 mod parse;
-#[cfg(test)]
-mod parse_tests;
 mod print;
 pub mod print_laws;
-#[cfg(test)]
-mod print_tests;
 mod source;
 mod thread;
 mod word;

@@ -196,7 +196,6 @@ fn put_threads(o: &Outline, into: &mut Vec<u8>) -> Result<(), AllocError>
 }
 
 /// Appends the lines of the thread with this number.
-
 fn put_thread(o: &Outline, k: u8, into: &mut Vec<u8>) -> Result<(), AllocError>
     requires { (1 ≤ k) × (k ≤ length o.now.program.threads) }
     ensures { OnOk result (into.new.items ≡ into.old.items ++ spec.thread_lines o.now.program.names k (thread_of o.now.program k) (slice_index_or o.now.notes (k - 1) [])) }

@@ -20,7 +20,7 @@ pub enum ProgramFault {
     AuxTwice(String),
     #[error("the value {0} is not in the domain")]
     ValueOutOfDomain(u32),
-    #[error("an expression or a test reads more than four names")]
+    #[error("an expression or a condition reads more than four names")]
     ExpressionNames(PointId),
     #[error("out of memory")]
     NoMemory,

@@ -8,10 +8,6 @@
 #![tactic(auto)]
 
 mod block;
-#[cfg(test)]
-mod builder;
-#[cfg(test)]
-mod checks;
 mod clause;
 mod expr;
 mod fault;
@@ -20,8 +16,6 @@ pub mod laws;
 mod name_table;
 mod point;
 mod syntax;
-#[cfg(test)]
-mod tests;
 mod words;
 
 pub use expr::{eval, holds_cond};

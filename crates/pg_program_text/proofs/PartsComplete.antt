@@ -32,7 +32,7 @@ use Rattle.pg_program_text.specs.declared.keyword.Keyword.TheVariants as k
 use Rattle.pg_program_text.specs.Keywords.{spelling, keyword, keyword_by, keyword_of}
 use Rattle.pg_program_text.specs.Expr as expr
 use Rattle.pg_program_text.specs.Expr.{Rule, Is, sum, factor_of, a_number, a_scalar, a_bracket, a_term, a_product, an_expr, a_sum, a_difference}
-use Rattle.pg_program_text.specs.Stmt.{with_room, expression, behind, formula, opens_note, opened, note, equal_at, told, test, swap, load_or_assign, assigned_by, assigned, to_name, act_by, an_act, auxiliary_in, one_more, assignment, goes_on_or_ends, separator, assignments_on, bracket_by, bracket}
+use Rattle.pg_program_text.specs.Stmt.{with_room, expression, behind, formula, opens_note, opened, note, equal_at, told, a_test, swap, load_or_assign, assigned_by, assigned, to_name, act_by, an_act, auxiliary_in, one_more, assignment, goes_on_or_ends, separator, assignments_on, bracket_by, bracket}
 use Rattle.pg_program_text.specs.Grammar.{IsExpr, IsNote, IsTest, IsAct, an_assign, a_store, a_load, a_cas, an_mfence, an_sfence, a_flush, a_flushopt, IsAssignment, AreAssignments, the_last, one_more as another, IsBracket, no_bracket, a_bracket as brackets, equality}
 use Rattle.pg_program_text.proofs.ExprComplete.{at, EndsExpr, ends_before, expr_reads}
 use Rattle.pg_program_text.proofs.PartsSound.{keyword_found}
@@ -74,8 +74,8 @@ equality_ends : (names : NameTable) (b : Bool) (from to : Cursor) → Stands nam
 equality_ends names true from to st = ends_before names s.Equal from to st refl refl refl
 equality_ends names false from to st = ends_before names s.NotEqual from to st refl refl refl
 
-pub test_reads : (names : NameTable) (i : Input) (c : Cond) (to : Cursor) → IsTest names i.cursor c to → EndsExpr to → test names i ≡ Ok (c, to_ i to)
-unfolding test
+pub test_reads : (names : NameTable) (i : Input) (c : Cond) (to : Cursor) → IsTest names i.cursor c to → EndsExpr to → a_test names i ≡ Ok (c, to_ i to)
+unfolding a_test
 test_reads names i c to is ends =
     let st = is.equality_is in
     bind_value (expression names i) _ c.left (to_ i is.mid) (expression_reads names i c.left is.mid is.left (equality_ends names c.equal is.mid is.behind st))

@@ -36,7 +36,7 @@ use Rattle.pg_program_text.specs.declared.keyword.Keyword.{Keyword}
 use Rattle.pg_program_text.specs.declared.keyword.Keyword.TheVariants as k
 use Rattle.pg_program_text.specs.Keywords.{spelling, keyword, keyword_by, keyword_of}
 use Rattle.pg_program_text.specs.Expr.{sum, factor_of}
-use Rattle.pg_program_text.specs.Stmt.{with_room, expression, behind, formula, opens_note, opened, note, equal_at, told, test, swap, load_or_assign, assigned_by, assigned, to_name, named_act, act_by, an_act, auxiliary_in, one_more, assignment, goes_on_or_ends, separator, assignments_on, bracket_by, bracket}
+use Rattle.pg_program_text.specs.Stmt.{with_room, expression, behind, formula, opens_note, opened, note, equal_at, told, a_test, swap, load_or_assign, assigned_by, assigned, to_name, named_act, act_by, an_act, auxiliary_in, one_more, assignment, goes_on_or_ends, separator, assignments_on, bracket_by, bracket}
 use Rattle.pg_program_text.specs.Grammar as g
 use Rattle.pg_program_text.specs.Grammar.{IsExpr, IsNote, IsTest, IsAct, IsAssignment, AreAssignments, IsBracket, equality}
 use Rattle.pg_program_text.proofs.ExprSound.{expr_found}
@@ -132,8 +132,8 @@ equal_found t b h = by (is_sign s.Equal t.kind) refl h
     by true e g = is_sign_found s.Equal t.kind e ∙ ap (λ b. kind.Sign (equality b)) (value_is true g)
     by false e g = second (is_sign s.NotEqual t.kind) refl g
 
-pub test_found : (names : NameTable) (i j : Input) (c : Cond) → test names i ≡ Ok (c, j) → Passed (IsTest names) i c j
-unfolding test
+pub test_found : (names : NameTable) (i j : Input) (c : Cond) → a_test names i ≡ Ok (c, j) → Passed (IsTest names) i c j
+unfolding a_test
 test_found names i j c h =
     bind_then (expression names i) _ (c, j) h (λ a l first rest.
     bind_then (next l) _ (c, j) rest (λ t m read rest2.

@@ -27,7 +27,7 @@ use Rattle.pg_program_text.specs.declared.keyword.Keyword.TheVariants as k
 use Rattle.pg_program_text.specs.declared.thread.ThreadText.{ThreadText}
 use Rattle.pg_program_text.specs.declared.thread.TheConstants.{MAX_POINTS, MAX_BLOCKS}
 use Rattle.pg_program_text.specs.Keywords.{spelling, keyword}
-use Rattle.pg_program_text.specs.Stmt.{test, an_act, bracket}
+use Rattle.pg_program_text.specs.Stmt.{a_test, an_act, bracket}
 use Rattle.pg_program_text.specs.Thread.{Lines, Noted, no_lines, bare, with_line, simple, ends_by, ends, line_or_end, lines_on, lines, block, else_by, else_part, joined, branch, repeat, statement_by, statement_in, statement, begins, begins_by, line_or_last, body_on, thread_at}
 use Rattle.pg_program_text.specs.Text.{lines as lines_of, ReadsAt, Answers, HasOneReading}
 use Rattle.pg_program_text.specs.Grammar as g
@@ -208,7 +208,7 @@ if_reads names n c ss ts ns ms from mid end behind to st tested brace opens yes_
     ap (λ (p : Parser Noted). p (at from r)) (statement_is names n)
     ∙ begun names below (at from r) st.lexeme (Some k.If) st.read (keyword_reads st.lexeme k.If st.matches.0 st.matches.1)
     ∙ ap (λ o. and_then o (λ u. branch names below)) (stands_token names (word (spelling k.If)) (at from r) mid st)
-    ∙ bind_value (test names (at mid r)) _ c (at end r) (test_reads names (at mid r) c end tested (ends_before names s.OpenBrace end brace opens refl refl refl))
+    ∙ bind_value (a_test names (at mid r)) _ c (at end r) (test_reads names (at mid r) c end tested (ends_before names s.OpenBrace end brace opens refl refl refl))
     ∙ bind_value (block names below (at end r)) _ (record { stmts = ss; notes = ns }) (at behind (r - length ns)) (yes_claim r (omega arith))
     ∙ bind_value (else_part names below (at behind (r - length ns))) _ (record { stmts = ts; notes = ms }) (at to (r - length ns - length ms)) (no_claim stops (r - length ns) (omega arith))
     ∙ ap (λ q. Ok (joined c (record { stmts = ss; notes = ns }) (record { stmts = ts; notes = ms }), at to q)) (omega arith)
@@ -221,7 +221,7 @@ while_reads names n c ss ns from mid end to st tested brace opens claim = λ sto
     ap (λ (p : Parser Noted). p (at from r)) (statement_is names n)
     ∙ begun names below (at from r) st.lexeme (Some k.While) st.read (keyword_reads st.lexeme k.While st.matches.0 st.matches.1)
     ∙ ap (λ o. and_then o (λ u. repeat names below)) (stands_token names (word (spelling k.While)) (at from r) mid st)
-    ∙ bind_value (test names (at mid r)) _ c (at end r) (test_reads names (at mid r) c end tested (ends_before names s.OpenBrace end brace opens refl refl refl))
+    ∙ bind_value (a_test names (at mid r)) _ c (at end r) (test_reads names (at mid r) c end tested (ends_before names s.OpenBrace end brace opens refl refl refl))
     ∙ ap (λ o. and_then o (λ (a : Lines). pure (record { stmt = bare (act.While c a.stmts); notes = a.notes }))) (claim r room)
 
 -- a block begins with its brace

@@ -19,7 +19,7 @@ use Rattle.pg_program_text.specs.declared.keyword.Keyword.{Keyword}
 use Rattle.pg_program_text.specs.declared.keyword.Keyword.TheVariants as k
 use Rattle.pg_program_text.specs.declared.thread.TheConstants.{MAX_POINTS, MAX_BLOCKS}
 use Rattle.pg_program_text.specs.Keywords.{spelling, keyword}
-use Rattle.pg_program_text.specs.Stmt.{note, test, an_act, bracket}
+use Rattle.pg_program_text.specs.Stmt.{note, a_test, an_act, bracket}
 use Rattle.pg_program_text.specs.Thread.{Lines, Noted, no_lines, bare, with_line, simple, ends_by, ends, line_or_end, lines_on, lines, refuse_block, block, else_by, else_part, joined, branch, repeat, statement_by, statement_in, statement, begins, line_or_last, body_on, body, thread_at}
 use Rattle.pg_program_text.specs.Grammar as g
 use Rattle.pg_program_text.specs.Grammar.{Part, IsPart, IsNote, IsBody, BeginsNone, IsThreadText}
@@ -177,7 +177,7 @@ branch_found : (names : NameTable) (m : ℕ) (below : Option (Parser Noted)) →
     → Stands names (word (spelling k.If)) i.cursor l.cursor → i.room ≡ l.room → branch names below l ≡ Ok (n, j) → Found names g.stmt m i (alone n) j
 unfolding branch
 branch_found names m below claim i l j n st room h =
-    bind_then (test names l) _ (n, j) h (λ c o first rest.
+    bind_then (a_test names l) _ (n, j) h (λ c o first rest.
     bind_then (block names below o) _ (n, j) rest (λ a p second rest2.
     bind_then (else_part names below p) _ (n, j) rest2 (λ b q third end.
     let tested = test_found names l o c first in
@@ -192,7 +192,7 @@ repeat_found : (names : NameTable) (m : ℕ) (below : Option (Parser Noted)) →
     → Stands names (word (spelling k.While)) i.cursor l.cursor → i.room ≡ l.room → repeat names below l ≡ Ok (n, j) → Found names g.stmt m i (alone n) j
 unfolding repeat
 repeat_found names m below claim i l j n st room h =
-    bind_then (test names l) _ (n, j) h (λ c o first rest.
+    bind_then (a_test names l) _ (n, j) h (λ c o first rest.
     bind_then (block names below o) _ (n, j) rest (λ a p second end.
     let tested = test_found names l o c first in
     let inner = block_found names m below claim o p a second in

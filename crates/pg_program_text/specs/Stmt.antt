@@ -70,8 +70,8 @@ abbrev pub told : {A : Type 0} → Result A TextFault → Parser A
 told (Ok a) = pure a
 told (Err e) = λ i. Err e
 
-unfoldable pub test : NameTable → Parser Cond
-test names = do
+unfoldable pub a_test : NameTable → Parser Cond
+a_test names = do
   a ← expression names
   t ← next
   equal ← told (equal_at t)

@@ -19,7 +19,7 @@ use Rattle.pg_program_text.specs.declared.thread.TheConstants.{MAX_POINTS, MAX_B
 use Rattle.pg_program_text.specs.declared.keyword.Keyword.{Keyword}
 use Rattle.pg_program_text.specs.declared.keyword.Keyword.TheVariants as k
 use Rattle.pg_program_text.specs.Keywords.{keyword}
-use Rattle.pg_program_text.specs.Stmt.{note, test, an_act, bracket}
+use Rattle.pg_program_text.specs.Stmt.{note, a_test, an_act, bracket}
 
 -- statements, and the notes of the points before them and within them
 pub record Lines : Type 0 where
@@ -108,14 +108,14 @@ joined c a b = record { stmt = bare (act.If c a.stmts b.stmts); notes = a.notes 
 
 unfoldable pub branch : NameTable → Option (Parser Noted) → Parser Noted
 branch names below = do
-  c ← test names
+  c ← a_test names
   a ← block names below
   b ← else_part names below
   pure (joined c a b)
 
 unfoldable pub repeat : NameTable → Option (Parser Noted) → Parser Noted
 repeat names below = do
-  c ← test names
+  c ← a_test names
   a ← block names below
   pure (record { stmt = bare (act.While c a.stmts); notes = a.notes })
 

@@ -15,12 +15,8 @@ mod expr;
 mod keyword;
 pub mod laws;
 mod print;
-#[cfg(test)]
-mod print_tests;
 mod stmt;
 mod thread;
-#[cfg(test)]
-mod thread_tests;
 
 pub use print::print_thread;
 pub use stmt::{MAX_ASSIGNMENTS, MAX_EXPR_NODES, MAX_EXPR_OPEN};

@@ -96,9 +96,9 @@ fn equality(token: &Token<'_>) -> Result<bool, TextFault>
 }
 
 /// A test.
-#[tactic(auto, unfolding(crate::specs::Stmt::test))]
+#[tactic(auto, unfolding(crate::specs::Stmt::a_test))]
 pub fn test(alloc: Global, tokens: &mut Tokens<'_>, names: &Names) -> Result<Cond, TextFault>
-    ensures { Reads (λ c. c) (spec.test names.now tokens.old) result tokens.new }
+    ensures { Reads (λ c. c) (spec.a_test names.now tokens.old) result tokens.new }
 {
     let left = expression(alloc, tokens, names)?;
     let token = tokens.next()?;

@@ -14,8 +14,6 @@ mod crashes;
 mod fault;
 mod formula;
 pub mod laws;
-#[cfg(test)]
-mod tests;
 mod window;
 
 pub use atom::holds_atom;

@@ -1,0 +1,209 @@
+//! The atoms that hold in states of a message that is passed, and what crashes leave of them.
+
+ghost use Rattle.std.specs.Prelude.{◌≡◌, length, IfOk};
+ghost use Rattle.pg_assertion.specs.Formula.{plain, AllAtoms};
+ghost use Rattle.pg_assertion.specs.Layout.{sizes};
+ghost use Rattle.pg_machine.specs.State.{IsWellFormed};
+ghost use Rattle.pg_views.specs.Formula.{IsCrashAtom};
+
+use crate::steps::{Line, behind};
+use crate::texts::{agree, on};
+use pg_assertion::{CrashAtom, Formula, Layout};
+use pg_assertion_text::print_formula;
+use pg_machine::State;
+use pg_program::Program;
+use pg_views::{CrashFault, Nvm, crash, holds, holds_crash};
+use std::alloc::Global;
+use std::test::Fail;
+
+const MESSAGE: &[u8] =
+    b"pierogi 1; values 2; location x = 0; location y = 0; register a of 1; register b of 2; thread 1 { [true] x := 1; [true] flush x; [true] y := 1; [true] } thread 2 { [true] b := y; [true] flushopt y; [true] }";
+
+/// The sender.
+const SENDS: [Line; 3] = [(1, None, None), (1, None, None), (1, None, None)];
+
+/// The sender, and then the receiver.
+const PASSES: [Line; 5] = [
+    (1, None, None),
+    (1, None, None),
+    (1, None, None),
+    (2, Some(2), None),
+    (2, None, None),
+];
+
+/// Nothing is done yet, and everyone sees the initial values.
+const FRESH: &str = " a = 0 b = 0 L(x,0) L(y,0) \
+R(1,x,0) R(1,y,0) R(2,x,0) R(2,y,0) \
+P(x,0) P(y,0) A(1,x,0) A(1,y,0) A(2,x,0) A(2,y,0) \
+C(1,x,0,x,0) C(1,x,0,y,0) C(1,y,0,x,0) C(1,y,0,y,0) \
+C(2,x,0,x,0) C(2,x,0,y,0) C(2,y,0,x,0) C(2,y,0,y,0) \
+N(1,x) N(1,y) N(2,x) N(2,y) O(1,x) O(1,y) O(2,x) O(2,y) F(1,x) F(1,y) F(2,x) F(2,y)";
+
+/// The message is sent: position 1 has x = 1, which is flushed, and position 2 has y = 1. The receiver has seen nothing.
+const SENT: &str = " a = 0 b = 0 L(x,1) L(y,1) \
+R(1,x,1) R(1,y,1) R(2,x,0) R(2,x,1) R(2,y,0) R(2,y,1) \
+P(x,1) P(y,0) P(y,1) A(1,x,1) A(1,y,0) A(1,y,1) A(2,x,1) A(2,y,0) A(2,y,1) \
+C(1,x,1,x,1) C(1,x,1,y,1) C(1,y,1,x,1) C(1,y,1,y,1) \
+C(2,x,0,x,0) C(2,x,0,x,1) C(2,x,0,y,0) C(2,x,0,y,1) C(2,x,1,x,1) C(2,x,1,y,0) C(2,x,1,y,1) \
+C(2,y,0,x,0) C(2,y,0,x,1) C(2,y,0,y,0) C(2,y,0,y,1) C(2,y,1,x,1) C(2,y,1,y,1) \
+N(1,x) N(1,y) O(1,x) O(1,y) F(1,x) F(1,y)";
+
+/// The receiver has read y = 1 at position 2, so that it reads x = 1 too, and has begun to write y back.
+const RECEIVED: &str = " a = 0 b = 1 L(x,1) L(y,1) \
+R(1,x,1) R(1,y,1) R(2,x,1) R(2,y,1) \
+P(x,1) P(y,0) P(y,1) A(1,x,1) A(1,y,0) A(1,y,1) A(2,x,1) A(2,y,1) \
+C(1,x,1,x,1) C(1,x,1,y,1) C(1,y,1,x,1) C(1,y,1,y,1) \
+C(2,x,1,x,1) C(2,x,1,y,1) C(2,y,1,x,1) C(2,y,1,y,1) \
+N(1,x) N(1,y) N(2,x) N(2,y) O(1,x) O(1,y) O(2,x) O(2,y) F(1,x) F(1,y) F(2,x) F(2,y)";
+
+/// Steps, and the atoms that hold behind them.
+static STATES: [(&[Line], &str); 3] = [(&[], FRESH), (&SENDS, SENT), (&PASSES, RECEIVED)];
+
+/// The layout of the atoms over a program of two threads and two values.
+pub fn layout_of(p: &Program) -> Result<Layout, Fail>
+    ensures { IfOk result (λ l. l ≡ sizes p.now.names (length p.now.threads)) }
+{
+    if p.names().domain() != 2 || p.threads() != 2 {
+        return Err(Fail::new("the program has another size"));
+    }
+    Ok(Layout::of(p.names(), p.threads()))
+}
+
+/// The atoms over the program that hold, each behind a blank.
+#[tactic(auto, using(crate::proofs::Atoms::names_of))]
+fn held(alloc: Global, s: &State, p: &Program) -> Result<Vec<u8>, Fail>
+    requires { IsWellFormed p.now s.now.state }
+{
+    let layout = layout_of(p)?;
+    let mut text = Vec::new(alloc);
+    for n in 1..layout.atoms() + 1 {
+        let f = Formula::Atom(layout.atom(n));
+        if holds(s, p, &f) {
+            text.push(b' ')?;
+            print_formula(&f, p.names(), &mut text)?;
+        }
+    }
+    Ok(text)
+}
+
+/// Passes where behind these steps just these atoms hold.
+fn hold_behind(alloc: Global, p: &Program, lines: &[Line], atoms: &str) -> Result<(), Fail> {
+    let state = behind(alloc, p, lines)?;
+    let found = held(alloc, &state, p)?;
+    agree(found.as_slice(), atoms.as_bytes(), MESSAGE)
+}
+
+#[test]
+fn atoms_hold(rt: HostRuntime) -> Result<(), Fail> {
+    let alloc = rt.alloc();
+    on(alloc, MESSAGE, |o| {
+        for (lines, atoms) in STATES {
+            hold_behind(alloc, o.program(), lines, atoms)?;
+        }
+        Ok(())
+    })
+}
+
+/// Positions of x and y, and the fault that a crash has with them once x is flushed and y is not written yet.
+static REFUSED: [(&[u32], CrashFault); 5] = [
+    (
+        &[1],
+        CrashFault::WrongLength {
+            given: 1,
+            wanted: 2,
+        },
+    ),
+    (
+        &[0, 0],
+        CrashFault::Overwritten {
+            x: 0,
+            position: 0,
+            later: 1,
+        },
+    ),
+    (
+        &[0, 9],
+        CrashFault::Overwritten {
+            x: 0,
+            position: 0,
+            later: 1,
+        },
+    ),
+    (&[2, 0], CrashFault::NotAPosition { x: 0, position: 2 }),
+    (&[1, 1], CrashFault::NotAPosition { x: 1, position: 1 }),
+];
+
+/// The store and the flush of the sender.
+const FLUSHES: [Line; 2] = [(1, None, None), (1, None, None)];
+
+/// What a crash at these positions leaves behind these steps, or its fault.
+fn crashed(
+    alloc: Global,
+    p: &Program,
+    lines: &[Line],
+    at: &[u32],
+) -> Result<Result<Nvm, CrashFault>, Fail>
+    ensures { IfOk result (λ r. IfOk r (λ n. length n ≡ length p.now.names.locations)) }
+{
+    let state = behind(alloc, p, lines)?;
+    if at.len() >= 4294967296 {
+        return Err(Fail::new("there are too many positions"));
+    }
+    Ok(crash(alloc, &state, p, at))
+}
+
+#[test]
+fn crashes_have_faults(rt: HostRuntime) -> Result<(), Fail> {
+    let alloc = rt.alloc();
+    on(alloc, MESSAGE, |o| {
+        for (at, fault) in &REFUSED {
+            let found = crashed(alloc, o.program(), &FLUSHES, *at)?.err();
+            agree(found, Some(*fault), MESSAGE)?;
+        }
+        Ok(())
+    })
+}
+
+/// Two stores of one thread, of which nothing is flushed.
+const UNFLUSHED: &[u8] =
+    b"pierogi 1; values 2; location x = 0; location y = 0; thread 1 { [true] x := 1; [true] y := 1; [true] }";
+
+const STORES: [Line; 2] = [(1, None, None), (1, None, None)];
+
+/// Positions of x and y, the values that a crash leaves at them behind both stores, and whether x is written if y is.
+static LEFT: [(&[u32], (u8, u8, bool)); 4] = [
+    (&[0, 0], (0, 0, true)),
+    (&[1, 0], (1, 0, true)),
+    (&[0, 2], (0, 1, false)),
+    (&[1, 2], (1, 1, true)),
+];
+
+/// `y = 1 -> x = 1`
+fn y_after_x(alloc: Global) -> Result<Formula<CrashAtom>, Fail>
+    ensures { IfOk result (λ f. AllAtoms (IsCrashAtom 2 2) (plain f)) }
+{
+    let x = Formula::Atom(CrashAtom::Location { x: 0, v: 1 });
+    let y = Formula::Atom(CrashAtom::Location { x: 1, v: 1 });
+    Ok(Formula::implies(alloc, y, x)?)
+}
+
+/// The values of x and y that a crash leaves behind both stores, and whether x is written if y is.
+fn left(alloc: Global, p: &Program, at: &[u32]) -> Result<(u8, u8, bool), Fail> {
+    if p.names().locations() != 2 {
+        return Err(Fail::new("there are other locations"));
+    }
+    let memory = crashed(alloc, p, &STORES, at)??;
+    let is_ordered = holds_crash(&memory, &[0, 0], &y_after_x(alloc)?);
+    Ok((memory.value(0), memory.value(1), is_ordered))
+}
+
+#[test]
+fn crashes_leave_memories(rt: HostRuntime) -> Result<(), Fail> {
+    let alloc = rt.alloc();
+    on(alloc, UNFLUSHED, |o| {
+        for (at, wanted) in &LEFT {
+            agree(left(alloc, o.program(), *at)?, *wanted, UNFLUSHED)?;
+        }
+        Ok(())
+    })
+}
