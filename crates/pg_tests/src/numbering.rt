@@ -11,13 +11,15 @@ use std::alloc::Global;
 use std::test::Fail;
 
 /// The first and the last atom of each kind, and some between them.
-static NUMBERS: [(u32, &[u8]); 25] = [
+static NUMBERS: [(u32, &[u8]); 28] = [
     (1, b"r = 0"),
     (2, b"r = 1"),
     (3, b"L(x,0)"),
+    (4, b"L(x,1)"),
     (5, b"L(y,0)"),
     (6, b"L(y,1)"),
     (7, b"R(1,x,0)"),
+    (9, b"R(1,y,0)"),
     (11, b"R(2,x,0)"),
     (14, b"R(2,y,1)"),
     (15, b"P(x,0)"),
@@ -34,6 +36,7 @@ static NUMBERS: [(u32, &[u8]); 25] = [
     (59, b"N(1,x)"),
     (62, b"N(2,y)"),
     (63, b"O(1,x)"),
+    (64, b"O(1,y)"),
     (66, b"O(2,y)"),
     (67, b"F(1,x)"),
     (70, b"F(2,y)"),
@@ -74,8 +77,8 @@ fn atoms_have_their_numbers(rt: HostRuntime) -> Result<(), Fail> {
     on(alloc, DECLARED, |o| {
         agree(layout_of(o.program())?.atoms(), 70, DECLARED)?;
         for (n, spelling) in &NUMBERS {
-            let is_numbered = is_numbered(alloc, o.program(), *n, *spelling)?;
-            agree(is_numbered, true, *spelling)?;
+            let found = is_numbered(alloc, o.program(), *n, *spelling)?;
+            agree(found, true, *spelling)?;
         }
         Ok(())
     })

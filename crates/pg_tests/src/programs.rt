@@ -1,61 +1,63 @@
 //! Programs that are built: their statements and steps, and the values of their expressions.
 
-ghost use Rattle.pg_machine.specs.State.{IsWellFormed};
-
+use crate::steps::{Line, behind};
 use crate::texts::{agree, between, on};
-use pg_machine::{Event, State};
 use pg_program::{Act, Branch, PointId, Program, Stmt};
 use std::alloc::{AllocError, Global};
 use std::test::Fail;
 
 const DECLARED: &[u8] = b"pierogi 1; values 2; location x = 0; register p of 1; thread 1 { ";
 
-/// The body of thread 1, with the letter of the statement at each point, a stop at its end, and the steps from it: the point,
-/// `>` for a statement, `+` where a condition holds and `-` where it does not, and the target.
-static GRAPHS: [(&[u8], &str); 14] = [
+/// The body of thread 1, and of a second one, with the letter of the statement at each point, a stop at an end, and the steps
+/// from it: thread, point, `>` for a statement, `+` where a test holds and `-` where it does not, and target.
+static GRAPHS: [(&[u8], &str); 15] = [
     (b"[true]", "."),
-    (b"[true] x := 0; [true] x := 1; [true]", "s1>2 s2>3 ."),
+    (b"[true] x := 0; [true] x := 1; [true]", "s1.1>2 s1.2>3 ."),
     (
         b"[true] if p = 0 { [true] x := 0; } else { } [true] x := 0; [true]",
-        "i1+2 1-3 s2>3 s3>4 .",
+        "i1.1+2 1.1-3 s1.2>3 s1.3>4 .",
     ),
     (
         b"[true] if p = 0 { [true] x := 0; } else { [true] x := 0; } [true]",
-        "i1+2 1-3 s2>4 s3>4 .",
+        "i1.1+2 1.1-3 s1.2>4 s1.3>4 .",
     ),
-    (b"[true] if p = 0 { } else { } [true]", "i1+2 1-2 ."),
+    (b"[true] if p = 0 { } else { } [true]", "i1.1+2 1.1-2 ."),
     (
         b"[true] if p = 0 { } else { } [true] x := 0; [true]",
-        "i1+2 1-2 s2>3 .",
+        "i1.1+2 1.1-2 s1.2>3 .",
     ),
     (
         b"[true] if p = 0 { } else { [true] x := 0; } [true] x := 0; [true]",
-        "i1+3 1-2 s2>3 s3>4 .",
+        "i1.1+3 1.1-2 s1.2>3 s1.3>4 .",
     ),
-    (b"[true] while p = 0 { } [true]", "w1+1 1-2 ."),
+    (b"[true] while p = 0 { } [true]", "w1.1+1 1.1-2 ."),
     (
         b"[true] while p = 0 { [true] x := 0; [true] x := 1; } [true] x := 0; [true]",
-        "w1+2 1-4 s2>3 s3>1 s4>5 .",
+        "w1.1+2 1.1-4 s1.2>3 s1.3>1 s1.4>5 .",
     ),
     (
         b"[true] while p = 0 { [true] if p = 0 { [true] x := 0; } else { } } [true]",
-        "w1+2 1-4 i2+3 2-1 s3>1 .",
+        "w1.1+2 1.1-4 i1.2+3 1.2-1 s1.3>1 .",
     ),
     (
         b"[true] if p = 0 { [true] if p = 0 { [true] x := 0; } else { [true] x := 0; } } else { [true] while p = 0 { } } [true] x := 0; [true]",
-        "i1+2 1-5 i2+3 2-4 s3>6 s4>6 w5+5 5-6 s6>7 .",
+        "i1.1+2 1.1-5 i1.2+3 1.2-4 s1.3>6 s1.4>6 w1.5+5 1.5-6 s1.6>7 .",
     ),
     (
         b"[true] if p = 0 { [true] while p = 0 { } } else { } [true]",
-        "i1+2 1-3 w2+2 2-3 .",
+        "i1.1+2 1.1-3 w1.2+2 1.2-3 .",
     ),
     (
         b"[true] while p = 0 { [true] x := 0; [true] while p = 0 { [true] x := 1; } } [true] x := 0; [true]",
-        "w1+2 1-5 s2>3 w3+4 3-1 s4>3 s5>6 .",
+        "w1.1+2 1.1-5 s1.2>3 w1.3+4 1.3-1 s1.4>3 s1.5>6 .",
     ),
     (
         b"[true] if p = 0 { [true] if p = 0 { [true] if p = 0 { [true] x := 0; } } } [true]",
-        "i1+2 1-5 i2+3 2-5 i3+4 3-5 s4>5 .",
+        "i1.1+2 1.1-5 i1.2+3 1.2-5 i1.3+4 1.3-5 s1.4>5 .",
+    ),
+    (
+        b"[true] x := 0; [true] } thread 2 { [true] while 0 = 0 { } [true]",
+        "s1.1>2 . w2.1+1 2.1-2 .",
     ),
 ];
 
@@ -83,19 +85,22 @@ fn sign(branch: Branch) -> &'static str {
     }
 }
 
-/// The statements and steps of thread 1, as in the table.
+/// The statements and steps of a program, as in the table.
 pub fn shown(alloc: Global, p: &Program) -> Result<String, Fail> {
-    if p.threads() < 1 {
-        return Err(Fail::new("there is no thread"));
-    }
     let mut text = String::new(alloc);
-    for point in 1..p.points(1) + 1 {
-        let at = PointId { thread: 1, point };
-        text.push_str(letter(p.stmt(at)))?;
-        for step in p.steps(at) {
-            let sign = sign(step.branch);
-            text.push_str(&format!(in alloc; "{}{sign}{} ", step.point, step.target)?)?;
+    for thread in 1..p.threads() + 1 {
+        for point in 1..p.points(thread) + 1 {
+            let at = PointId { thread, point };
+            text.push_str(letter(p.stmt(at)))?;
+            for step in p.steps(at) {
+                let sign = sign(step.branch);
+                text.push_str(&format!(in alloc;
+                    "{}.{}{sign}{} ",
+                    step.thread, step.point, step.target
+                )?)?;
+            }
         }
+        text.push_str(" ")?;
     }
     Ok(text)
 }
@@ -106,7 +111,7 @@ fn programs_have_their_steps(rt: HostRuntime) -> Result<(), Fail> {
     for (body, graph) in &GRAPHS {
         let text = between(alloc, DECLARED, *body, b" }")?;
         let found = on(alloc, &text, |o| shown(alloc, o.program()))?;
-        agree(found.as_str(), *graph, &text)?;
+        agree(found.as_str().trim_end(), *graph, &text)?;
     }
     Ok(())
 }
@@ -128,20 +133,8 @@ static VALUES: [(&[u8], u8); 10] = [
 const ASSIGNED: &[u8] =
     b"pierogi 1; values 4; register p of 1; register q of 1; register r of 1; register s of 1; register t of 1; register u of 1; register v of 1; thread 1 { [true] p := 1; [true] r := 2; [true] s := 3; [true] t := ";
 
-/// Whether thread 1 goes on from each of the so many next points alone.
-fn goes_on(state: &mut State, p: &Program, steps: u32) -> bool
-    requires { IsWellFormed p.now state.old.state }
-{
-    let mut all = true;
-    for _i in 0..steps {
-        let event = Event {
-            thread: 1,
-            choice: None,
-        };
-        all = all && state.step(p, event).is_ok();
-    }
-    all
-}
+/// All steps of such a program.
+const STEPS: [Line; 7] = [(1, None, None); 7];
 
 /// The text of a program that leaves in t the value of an expression, in u 1 where it is 2, and in v 1 where it is not.
 fn text_of(alloc: Global, expr: &[u8]) -> Result<Vec<u8>, AllocError> {
@@ -150,12 +143,9 @@ fn text_of(alloc: Global, expr: &[u8]) -> Result<Vec<u8>, AllocError> {
     between(alloc, &middle, expr, b" != 2 { [true] v := 1; } [true] }")
 }
 
-/// What the machine leaves in t, u and v behind seven steps, the last ones of that program.
+/// What the machine leaves in t, u and v.
 fn left(alloc: Global, p: &Program) -> Result<Option<(u8, u8, u8)>, Fail> {
-    let mut state = State::fresh(alloc, p)?;
-    if !goes_on(&mut state, p, 7) {
-        return Ok(None);
-    }
+    let state = behind(alloc, p, &STEPS)?;
     match state.scalars() {
         [_, _, _, _, t, u, v] => Ok(Some((*t, *u, *v))),
         _ => Ok(None),

@@ -1,5 +1,0 @@
-use Rattle.pg_machine.specs.State.{IsWellFormed}
-use Rattle.pg_tests.proofs.programs.goes_on.Given as goal
-
-abbrev pub invariant-loop-i : goal.invariant-loop-i
-invariant-loop-i l = IsWellFormed l.p l.state.state
