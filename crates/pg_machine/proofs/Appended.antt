@@ -1,14 +1,11 @@
 -- What an appended message changes of the last values: that of its location alone.
 use Rattle.std.proofs.Common.{◌≡◌, ℕ, zero, suc, ◌<◌, ◌≤◌, Bool, true, false, cond, ◌==◌, List, [], ◌∷◌, ◌++◌, length, slice_index_or, refl, ap, ◌∙◌, arith}
-use Rattle.std.proofs.lemmas.Bool.{eqb-false}
+use Rattle.std.proofs.lemmas.Bool.{eq-eqb}
+use Rattle.std.proofs.lemmas.List.{get_or_append_left, get_or_push}
 use Rattle.pg_machine.specs.Memory.{Memory, is_to, value_at, last_upto, last, last_value, message_appended}
 
 pub same_number : (x : ℕ) → (x == x) ≡ true
-same_number x = by (x == x) refl
-  where
-    by : (b : Bool) → (x == x) ≡ b → (x == x) ≡ true
-    by true e = e
-    by false e = absurd (eqb-false x x e refl)
+same_number x = eq-eqb x x refl
 
 pub is_to-front : (ms : List (ℕ × ℕ)) (m : ℕ × ℕ) (y i : ℕ) → i < length ms → is_to (ms ++ m ∷ []) y i ≡ is_to ms y i
 is_to-front [] m y i lt = absurd (omega arith)
@@ -43,21 +40,12 @@ last-appended ms m y =
     ∙ (ap (λ (b : Bool). cond b (suc (length ms)) (last_upto (ms ++ m ∷ []) y (length ms))) (is_to-new ms m y)
     ∙ ap (λ (l : ℕ). cond (m.0 == y) (suc (length ms)) l) (last_upto-front ms m y (length ms) (omega arith)))
 
-get-front : (ms : List (ℕ × ℕ)) (m d : ℕ × ℕ) (i : ℕ) → i < length ms → slice_index_or (ms ++ m ∷ []) i d ≡ slice_index_or ms i d
-get-front [] m d i lt = absurd (omega arith)
-get-front (a ∷ ms) m d zero lt = refl
-get-front (a ∷ ms) m d (suc i) lt = get-front ms m d i (omega arith)
-
-get-new : (ms : List (ℕ × ℕ)) (m d : ℕ × ℕ) → slice_index_or (ms ++ m ∷ []) (length ms) d ≡ m
-get-new [] m d = refl
-get-new (a ∷ ms) m d = get-new ms m d
-
 value_at-front : (m : Memory) (st : ℕ × ℕ) (y p : ℕ) → p ≤ length m.messages → value_at (message_appended m st) y p ≡ value_at m y p
 value_at-front m st y zero h = refl
-value_at-front m st y (suc i) h = ap (λ (e : ℕ × ℕ). e.1) (get-front m.messages st (0, 0) i (omega (arith, h)))
+value_at-front m st y (suc i) h = ap (λ (e : ℕ × ℕ). e.1) (get_or_append_left m.messages (st ∷ []) (0, 0) i (omega (arith, h)))
 
 value_at-new : (m : Memory) (st : ℕ × ℕ) (y : ℕ) → value_at (message_appended m st) y (suc (length m.messages)) ≡ st.1
-value_at-new m st y = ap (λ (e : ℕ × ℕ). e.1) (get-new m.messages st (0, 0))
+value_at-new m st y = ap (λ (e : ℕ × ℕ). e.1) (get_or_push m.messages st (0, 0) (length m.messages) refl)
 
 -- after a store its location has its value, and every other location the value that it had
 pub last_value-appended : (m : Memory) (st : ℕ × ℕ) (y : ℕ) → last_value (message_appended m st) y ≡ cond (st.0 == y) st.1 (last_value m y)

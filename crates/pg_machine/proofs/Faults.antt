@@ -1,6 +1,7 @@
 -- An event has one fault at most, and where it has one it leads to no state within the limit of messages.
 use Rattle.std.proofs.Common.{rules, Result, Ok, Err, OnOk, IfErr, ◌≡◌, ℕ, zero, suc, ◌<◌, ◌≤◌, ◌⊎◌, Bool, true, false, not, ◌&&◌, nat_le, List, [], ◌∷◌, ◌++◌, length, Option, Some, None, inl, inr, refl, sym, ap, ap₂, subst, ◌∙◌, arith}
 use Rattle.std.proofs.lemmas.Bool.{and_parts, leb-true, true≢false, false≢true, cases_order}
+use Rattle.std.proofs.lemmas.List.{length_push}
 use Rattle.pg_program.specs.declared.syntax.Stmt.{Stmt}
 use Rattle.pg_program.specs.declared.syntax.Act.{Act}
 use Rattle.pg_program.specs.declared.syntax.Act.TheOpen.{Act-F, Assign, Store, Load, Cas, Mfence, Sfence, Flush, Flushopt, If, While}
@@ -15,19 +16,10 @@ use Rattle.pg_machine.specs.Moves.{Seen}
 use Rattle.pg_machine.specs.Step.{Left, Row, HasThread, seen_by, act_of, IsStep}
 use Rattle.pg_machine.specs.Fault.{IsLeastHiding, ChoiceFault, RowFault, ActFault, IsFault}
 use Rattle.pg_machine.specs.Held.{IsRefusal, IsTaken}
+use Rattle.pg_machine.proofs.EveryBelow.{every_below-at}
 use Rattle.pg_machine.proofs.Scan.{is_at-within}
 
 -- ---- choices
-
-at-every_below : (f : ℕ → Bool) (n q : ℕ) → every_below f n ≡ true → q < n → f q ≡ true
-at-every_below f zero q h lt = absurd (omega arith)
-at-every_below f (suc n) q h lt =
-    let parts = and_parts (f n) (every_below f n) h in
-    elim (cases_order q n) [
-      | inl e ↦ ap f e ∙ parts.0
-      | inr (inl less) ↦ at-every_below f n q parts.1 less
-      | inr (inr more) ↦ absurd (omega arith)
-    ]
 
 not-both : (b : Bool) → not b ≡ true → b ≡ true → ⊥
 not-both true h k = false≢true h
@@ -49,7 +41,7 @@ pub hidden-not_clear : (ms : List (ℕ × ℕ)) (x p n later : ℕ) → hides ms
 hidden-not_clear ms x p n later h clear =
     let at = (and_parts (is_at ms x later) _ h).0 in
     let within = is_at-within ms x later at in
-    not-both (hides ms x p n later) (at-every_below (λ q. not (hides ms x p n q)) (suc (length ms)) later clear (omega (arith, within))) h
+    not-both (hides ms x p n later) (every_below-at (λ q. not (hides ms x p n q)) (suc (length ms)) later clear (omega (arith, within))) h
 
 pub choice-unread : (n : Seen) (x p b : ℕ) (f : StepFault) → ChoiceFault n x p b f → reaches n.memory.messages x (coh_of n.views x) b p ≡ true → ⊥
 choice-unread n x p b (NotAPosition q) h r = true≢false (sym (is_reached n.memory.messages x (coh_of n.views x) b p r).at ∙ h.1)
@@ -118,12 +110,8 @@ row-one d n r (If t y z) (Some p) f g h k = h ∙ sym k
 row-one d n r (While t y) None f g h k = absurd h
 row-one d n r (While t y) (Some p) f g h k = h ∙ sym k
 
-one-more : {X : Type 0} (xs : List X) (x : X) → length (xs ++ x ∷ []) ≡ suc (length xs)
-one-more [] x = refl
-one-more (y ∷ xs) x = ap suc (one-more xs x)
-
 too-many : (ms : List (ℕ × ℕ)) (m : ℕ × ℕ) (k : ℕ) → MAX_MESSAGES ≤ length ms → k ≡ length (ms ++ m ∷ []) → k ≤ MAX_MESSAGES → ⊥
-too-many ms m k full is few = let more = one-more ms m in absurd (omega (arith, full, is, more, few))
+too-many ms m k full is few = let more = length_push ms m in absurd (omega (arith, full, is, more, few))
 
 row-none : (d : ℕ) (n : Seen) (r : List ℕ) (a : Act-F Act Stmt) (c : Option ℕ) (f : StepFault) (left : Left) → RowFault d n r a c f → Row d n r a c left → length left.seen.memory.messages ≤ MAX_MESSAGES → ⊥
 row-none d n r (Load q x) None f left h row few = row

@@ -1,3 +1,5 @@
+pub mod PositionLists
+pub mod EveryBelow
 pub mod Scan
 pub mod Made
 pub mod Uses

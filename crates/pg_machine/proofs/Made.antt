@@ -1,5 +1,6 @@
 -- What a list that is made item by item has.
 use Rattle.std.proofs.Common.{◌≡◌, ℕ, zero, suc, ◌+◌, ◌<◌, List, [], ◌∷◌, ◌++◌, length, map, take, get_or, Some, option_map, slice_get, refl, ap, ◌∙◌, arith}
+use Rattle.std.proofs.Math.Seq.{take-suc}
 
 -- the second part of a pair in a list
 pub record IsSecond {X : Type 0} (es : List (X × ℕ)) (i v : ℕ) : Type 0 where
@@ -14,13 +15,8 @@ second_of (e ∷ es) (suc i) v h =
     let inside = rest.inside in
     record { inside = omega (arith, inside); is = rest.is }
 
-take-step : (xs : List ℕ) (i : ℕ) → i < length xs → take (suc i) xs ≡ take i xs ++ get_or xs i 0 ∷ []
-take-step [] i lt = absurd (omega arith)
-take-step (x ∷ xs) zero lt = refl
-take-step (x ∷ xs) (suc i) lt = ap (λ (l : List ℕ). x ∷ l) (take-step xs i (omega arith))
-
 pub take-next : (xs : List ℕ) (i : ℕ) → i < length xs → take (i + 1) xs ≡ take i xs ++ get_or xs i 0 ∷ []
-take-next xs i lt = let e : i + 1 ≡ suc i = omega arith in ap (λ (n : ℕ). take n xs) e ∙ take-step xs i lt
+take-next xs i lt = let e : i + 1 ≡ suc i = omega arith in ap (λ (n : ℕ). take n xs) e ∙ take-suc xs i 0 lt
 
 -- a list is what stands before its last item, and that
 pub last_at : {X : Type 0} (xs : List X) (i : ℕ) (a : X) → suc i ≡ length xs → a ≡ get_or xs i a → take i xs ++ a ∷ [] ≡ xs

@@ -18,7 +18,8 @@ use Rattle.pg_machine.proofs.Scan.{is_at-within}
 use Rattle.pg_machine.proofs.Formed.{stmt_locations}
 use Rattle.pg_machine.proofs.Faults.{IsReached, is_reached}
 use Rattle.pg_machine.proofs.ViewsKept.{load_views, mfence_views}
-use Rattle.pg_machine.proofs.ViewLaws.{set-grows, greatest-raised, greatest-above, greatest-least, greater-at, maxcoh-within, vpc-within}
+use Rattle.pg_machine.proofs.PositionLists.{set-grows, greatest-raised, greatest-above, greatest-least, greater-at}
+use Rattle.pg_machine.proofs.ViewLaws.{maxcoh-within, vpc-within, view-loaded}
 
 -- ---- views that move forth
 
@@ -76,15 +77,11 @@ swap-grows m w x h =
       committed = back-grows m w h;
     }
 
-raised-view : (b : Bool) (n p : ℕ) → n ≤ cond b n (max n p)
-raised-view true n p = omega arith
-raised-view false n p = omega arith
-
 load-grows : (w : Views) (x p : ℕ) → coh_of w x ≤ p → Grows w (load_seen w x p)
 load-grows w x p le = record {
   coh = λ y. set-grows w.coh x p y le;
-  read = raised-view (p == coh_of w x) w.vrn p;
-  ready = raised-view (p == coh_of w x) w.vpr p;
+  read = view-loaded (p == coh_of w x) w.vrn p;
+  ready = view-loaded (p == coh_of w x) w.vpr p;
   asynchronous = λ y. omega arith;
   committed = λ y. omega arith;
 }

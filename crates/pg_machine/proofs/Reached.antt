@@ -1,15 +1,16 @@
 -- The positions of one location that a view reaches: those from the greater of two positions on. So of two such sets one
 -- contains the other, and a load moves as little as it does.
 use Rattle.std.proofs.Common.{◌≡◌, ℕ, zero, suc, ◌<◌, ◌≤◌, ◌==◌, max, nat_le, Bool, true, false, cond, ◌&&◌, ◌⊎◌, List, [], ◌∷◌, length, get_or, set, ◌++◌, inl, inr, refl, sym, ap, ap₂, ◌∙◌, arith}
-use Rattle.std.proofs.lemmas.Bool.{cases_lt, and_parts, leb-true, le-leb, eqb-false, ne_eqb}
+use Rattle.std.proofs.lemmas.Bool.{cases_lt, and_from, leb-true, le-leb, eqb-false, ne_eqb}
 use Rattle.std.proofs.lemmas.List.{set-get_or}
 use Rattle.pg_machine.specs.Memory.{is_to, is_at, hides, is_clear, reaches, last_upto, last}
 use Rattle.pg_machine.specs.State.{Views, coh_of, AreViews}
 use Rattle.pg_machine.specs.Moves.{Seen, load_seen, loaded, can_read}
 use Rattle.pg_machine.proofs.Appended.{same_number, is_to-front, is_to-new, length-appended, last_upto-front, last_upto-within}
 use Rattle.pg_machine.proofs.Scan.{is_at-within, is_clear-none, hides-here, hides-other, hides-below, hides-above}
-use Rattle.pg_machine.proofs.ViewLaws.{set-grows, coh-at}
-use Rattle.pg_machine.proofs.Faults.{hidden-not_clear}
+use Rattle.pg_machine.proofs.PositionLists.{set-grows, set-either}
+use Rattle.pg_machine.proofs.ViewLaws.{coh-at, view-loaded}
+use Rattle.pg_machine.proofs.Faults.{is_reached, hidden-not_clear}
 
 -- ---- the last position up to n
 
@@ -49,7 +50,7 @@ last-above ms x q at = last_upto-above ms x (length ms) q at (is_at-within ms x 
 
 -- ---- what is reached
 
--- behind the last position up to n nothing is hidden up to n, and every position before it is
+-- from the last position up to n on no position is hidden up to n, and every position before it is
 pub clear-from : (ms : List (ℕ × ℕ)) (x p n : ℕ) → last_upto ms x n ≤ p → is_clear ms x p n ≡ true
 clear-from ms x p n le = is_clear-none ms x p n (λ q. by q (is_at ms x q) refl)
   where
@@ -74,15 +75,13 @@ pub record Reaches (ms : List (ℕ × ℕ)) (x c n p : ℕ) : Type 0 where
 
 pub reaches_of : (ms : List (ℕ × ℕ)) (x c n p : ℕ) → reaches ms x c n p ≡ true → Reaches ms x c n p
 reaches_of ms x c n p h =
-    let a = and_parts (is_at ms x p) (nat_le c p && is_clear ms x p n) h in
-    let b = and_parts (nat_le c p) (is_clear ms x p n) a.1 in
-    record { at = a.0; from = leb-true c p b.0; last = clear-upto ms x p n b.1 }
-
-all-true : (a b c : Bool) → a ≡ true → b ≡ true → c ≡ true → (a && (b && c)) ≡ true
-all-true a b c h k l = ap (λ (x : Bool). x && (b && c)) h ∙ (ap (λ (x : Bool). x && c) k ∙ l)
+    let is = is_reached ms x c n p h in
+    record { at = is.at; from = is.from; last = clear-upto ms x p n is.clear }
 
 pub of_reaches : (ms : List (ℕ × ℕ)) (x c n p : ℕ) → Reaches ms x c n p → reaches ms x c n p ≡ true
-of_reaches ms x c n p h = all-true (is_at ms x p) (nat_le c p) (is_clear ms x p n) h.at (le-leb c p h.from) (clear-from ms x p n h.last)
+of_reaches ms x c n p h =
+    and_from (is_at ms x p) (nat_le c p && is_clear ms x p n) h.at
+    (and_from (nat_le c p) (is_clear ms x p n) (le-leb c p h.from) (clear-from ms x p n h.last))
 
 -- the least position that is reached
 abbrev pub least : List (ℕ × ℕ) → ℕ → ℕ → ℕ → ℕ
@@ -156,15 +155,10 @@ last-alone ms x c n le = λ q h.
 
 -- ---- loads
 
--- the read view after a load, and the ready view: the view n and the position p that is loaded
-after-load : (b : Bool) (n p : ℕ) → n ≤ cond b n (max n p)
-after-load true n p = omega arith
-after-load false n p = omega arith
-
 -- after a load no position may be read that could not be read before
 pub load-less : (n : Seen) (x p y q : ℕ) → coh_of n.views x ≤ p → can_read (loaded n x p) y q ≡ true → can_read n y q ≡ true
 load-less n x p y q le =
-    reaches-less n.memory.messages y (coh_of n.views y) n.views.vrn (coh_of (load_seen n.views x p) y) (load_seen n.views x p).vrn (set-grows n.views.coh x p y le) (after-load (p == coh_of n.views x) n.views.vrn p) q
+    reaches-less n.memory.messages y (coh_of n.views y) n.views.vrn (coh_of (load_seen n.views x p) y) (load_seen n.views x p).vrn (set-grows n.views.coh x p y le) (view-loaded (p == coh_of n.views x) n.views.vrn p) q
 
 -- a load at the coherence view leaves all views
 pub load-same : (w : Views) (x : ℕ) → load_seen w x (coh_of w x) ≡ w
@@ -190,17 +184,6 @@ load-least ms w x read = by (p == coh_of w x) refl
         let within = last_upto-within ms x w.vrn in
         let upto : p ≤ w.vrn = omega (arith, apart, within) in
         ap₂ with (let q : max w.vrn p ≡ w.vrn = omega (arith, upto) in q) (let q : max w.vpr p ≡ w.vpr = omega (arith, upto, read) in q)
-
--- what a set leaves at a place
-set-either : (coh : List ℕ) (x p y : ℕ) → (get_or (set coh x p) y 0 ≡ get_or coh y 0) ⊎ ((y ≡ x) × (get_or (set coh x p) y 0 ≡ p))
-set-either [] x p y = inl refl
-set-either (c ∷ coh) zero p zero = inr (refl, refl)
-set-either (c ∷ coh) zero p (suc y) = inl refl
-set-either (c ∷ coh) (suc x) p zero = inl refl
-set-either (c ∷ coh) (suc x) p (suc y) = elim (set-either coh x p y) [
-  | inl same ↦ inl same
-  | inr here ↦ inr (ap suc here.0, here.1)
-]
 
 pub same_truth : (a b : Bool) → (a ≡ true → b ≡ true) → (b ≡ true → a ≡ true) → a ≡ b
 same_truth true b h k = sym (h refl)

@@ -1,16 +1,17 @@
 -- What the scans of messages and positions find.
 use Rattle.std.proofs.Common.{◌≡◌, ℕ, zero, suc, ◌+◌, ◌-◌, ◌<◌, ◌≤◌, ◌==◌, max, nat_le, nat_lt, Bool, true, false, cond, not, ◌&&◌, List, [], ◌∷◌, length, get_or, set, drop, refl, inl, inr, sym, ap, ◌∙◌, arith}
-use Rattle.std.proofs.lemmas.Bool.{lt-leb, lt-ltb, le-leb, cases_lt, true≢false}
+use Rattle.std.proofs.lemmas.Bool.{lt-leb, lt-ltb, le-leb, cases_lt, true≢false, and_left, and_right, and_from}
 use Rattle.pg_machine.specs.Memory.{is_to, is_at, last_upto, every_below, hides, is_clear}
 use Rattle.pg_machine.specs.State.{greatest}
 use Rattle.pg_machine.specs.Moves.{greater}
+use Rattle.pg_machine.proofs.EveryBelow.{every_below-all}
 
 -- ---- messages
 
-pub is_to-behind : (ms : List (ℕ × ℕ)) (x i : ℕ) → length ms ≤ i → is_to ms x i ≡ false
-is_to-behind [] x i le = refl
-is_to-behind (n ∷ ms) x zero le = absurd (omega arith)
-is_to-behind (n ∷ ms) x (suc i) le = is_to-behind ms x i (omega arith)
+pub is_to-past : (ms : List (ℕ × ℕ)) (x i : ℕ) → length ms ≤ i → is_to ms x i ≡ false
+is_to-past [] x i le = refl
+is_to-past (n ∷ ms) x zero le = absurd (omega arith)
+is_to-past (n ∷ ms) x (suc i) le = is_to-past ms x i (omega arith)
 
 pub is_to-get : (ms : List (ℕ × ℕ)) (x i : ℕ) (d : ℕ × ℕ) → i < length ms → is_to ms x i ≡ ((get_or ms i d).0 == x)
 is_to-get [] x i d lt = absurd (omega arith)
@@ -27,57 +28,33 @@ last_upto-next ms x i =
     let e : i + 1 ≡ suc i = omega arith in
     ap (last_upto ms x) e ∙ ap (λ (n : ℕ). cond (is_to ms x i) n (last_upto ms x i)) (sym e)
 
--- there is no position behind the last message
-pub is_at-behind : (ms : List (ℕ × ℕ)) (x p : ℕ) → length ms < p → is_at ms x p ≡ false
-is_at-behind ms x zero lt = absurd (omega arith)
-is_at-behind ms x (suc i) lt = is_to-behind ms x i (omega arith)
+-- there is no position after the last message
+pub is_at-past : (ms : List (ℕ × ℕ)) (x p : ℕ) → length ms < p → is_at ms x p ≡ false
+is_at-past ms x zero lt = absurd (omega arith)
+is_at-past ms x (suc i) lt = is_to-past ms x i (omega arith)
 
 pub is_at-within : (ms : List (ℕ × ℕ)) (x p : ℕ) → is_at ms x p ≡ true → p ≤ length ms
 is_at-within ms x p h = elim (cases_lt (length ms) p) [
-  | inl lt ↦ absurd (true≢false (sym h ∙ is_at-behind ms x p lt))
+  | inl lt ↦ absurd (true≢false (sym h ∙ is_at-past ms x p lt))
   | inr le ↦ le
 ]
 
-pub last_upto-within : (ms : List (ℕ × ℕ)) (x n : ℕ) → last_upto ms x n ≤ n
-last_upto-within ms x zero = omega arith
-last_upto-within ms x (suc n) = by (is_to ms x n) (last_upto-within ms x n)
-  where
-    by : (b : Bool) → last_upto ms x n ≤ n → cond b (suc n) (last_upto ms x n) ≤ suc n
-    by true h = omega arith
-    by false h = omega (arith, h)
-
 -- ---- what hides a position
 
-every-below : (f : ℕ → Bool) (n : ℕ) → ((q : ℕ) → q < n → f q ≡ true) → every_below f n ≡ true
-every-below f zero h = refl
-every-below f (suc n) h = ap (λ (b : Bool). b && every_below f n) (h n (omega arith)) ∙ every-below f n (λ q lt. h q (omega arith))
-
-three-true : (a b c : Bool) → a ≡ true → b ≡ true → c ≡ true → (a && (b && c)) ≡ true
-three-true a b c h k l = ap (λ (x : Bool). x && (b && c)) h ∙ (ap (λ (x : Bool). x && c) k ∙ l)
-
-three-false : (a b c : Bool) → c ≡ false → (a && (b && c)) ≡ false
-three-false true true c e = e
-three-false true false c e = refl
-three-false false b c e = refl
-
-two-false : (a b c : Bool) → b ≡ false → (a && (b && c)) ≡ false
-two-false true b c e = ap (λ (x : Bool). x && c) e
-two-false false b c e = refl
-
 pub hides-above : (ms : List (ℕ × ℕ)) (x p n q : ℕ) → n < q → hides ms x p n q ≡ false
-hides-above ms x p n q lt = three-false (is_at ms x q) (nat_lt p q) (nat_le q n) (lt-leb q n lt)
+hides-above ms x p n q lt = and_right (is_at ms x q) (nat_lt p q && nat_le q n) (and_right (nat_lt p q) (nat_le q n) (lt-leb q n lt))
 
 pub hides-below : (ms : List (ℕ × ℕ)) (x p n q : ℕ) → q ≤ p → hides ms x p n q ≡ false
-hides-below ms x p n q le = two-false (is_at ms x q) (nat_lt p q) (nat_le q n) (lt-leb (suc p) q (omega arith))
+hides-below ms x p n q le = and_right (is_at ms x q) (nat_lt p q && nat_le q n) (and_left (nat_lt p q) (nat_le q n) (lt-leb (suc p) q (omega arith)))
 
 pub hides-other : (ms : List (ℕ × ℕ)) (x p n q : ℕ) → is_at ms x q ≡ false → hides ms x p n q ≡ false
-hides-other ms x p n q e = ap (λ (b : Bool). b && (nat_lt p q && nat_le q n)) e
+hides-other ms x p n q e = and_left (is_at ms x q) (nat_lt p q && nat_le q n) e
 
 pub hides-here : (ms : List (ℕ × ℕ)) (x p n q : ℕ) → is_at ms x q ≡ true → p < q → q ≤ n → hides ms x p n q ≡ true
-hides-here ms x p n q e lt le = three-true (is_at ms x q) (nat_lt p q) (nat_le q n) e (lt-ltb p q lt) (le-leb q n le)
+hides-here ms x p n q e lt le = and_from (is_at ms x q) (nat_lt p q && nat_le q n) e (and_from (nat_lt p q) (nat_le q n) (lt-ltb p q lt) (le-leb q n le))
 
 pub is_clear-none : (ms : List (ℕ × ℕ)) (x p n : ℕ) → ((q : ℕ) → hides ms x p n q ≡ false) → is_clear ms x p n ≡ true
-is_clear-none ms x p n h = every-below (λ q. not (hides ms x p n q)) (suc (length ms)) (λ q lt. ap not (h q))
+is_clear-none ms x p n h = every_below-all (λ q. not (hides ms x p n q)) (suc (length ms)) (λ q lt. ap not (h q))
 
 -- ---- lists of positions
 
@@ -91,11 +68,11 @@ greatest-next ps m i lt =
     let e : i + 1 ≡ suc i = omega arith in
     ap (λ (n : ℕ). max (max m (get_or ps i 0)) (greatest (drop n ps))) e ∙ greatest-step ps m i lt
 
-pub greatest-behind : (ps : List ℕ) (i : ℕ) → length ps ≤ i → greatest (drop i ps) ≡ 0
-greatest-behind [] zero le = refl
-greatest-behind [] (suc i) le = refl
-greatest-behind (p ∷ ps) zero le = absurd (omega arith)
-greatest-behind (p ∷ ps) (suc i) le = greatest-behind ps i (omega arith)
+pub greatest-past : (ps : List ℕ) (i : ℕ) → length ps ≤ i → greatest (drop i ps) ≡ 0
+greatest-past [] zero le = refl
+greatest-past [] (suc i) le = refl
+greatest-past (p ∷ ps) zero le = absurd (omega arith)
+greatest-past (p ∷ ps) (suc i) le = greatest-past ps i (omega arith)
 
 -- the first i positions raised
 abbrev pub raised : ℕ → List ℕ → List ℕ → List ℕ
@@ -121,14 +98,3 @@ raised-all zero (p ∷ ps) qs le = absurd (omega arith)
 raised-all (suc i) [] qs le = refl
 raised-all (suc i) (p ∷ ps) [] le = refl
 raised-all (suc i) (p ∷ ps) (q ∷ qs) le = ap (λ (l : List ℕ). max p q ∷ l) (raised-all i ps qs (omega arith))
-
-pub raised-length : (i : ℕ) (ps qs : List ℕ) → length (raised i ps qs) ≡ length ps
-raised-length zero ps qs = refl
-raised-length (suc i) [] qs = refl
-raised-length (suc i) (p ∷ ps) [] = refl
-raised-length (suc i) (p ∷ ps) (q ∷ qs) = ap suc (raised-length i ps qs)
-
-pub greater-length : (ps qs : List ℕ) → length (greater ps qs) ≡ length ps
-greater-length [] qs = refl
-greater-length (p ∷ ps) [] = refl
-greater-length (p ∷ ps) (q ∷ qs) = ap suc (greater-length ps qs)

@@ -1,5 +1,7 @@
 -- A step that is taken in parts is a step of the state.
 use Rattle.std.proofs.Common.{◌≡◌, ℕ, zero, suc, ◌-◌, ◌<◌, ◌≤◌, List, [], ◌∷◌, ◌++◌, length, take, drop, get_or, set, Option, Some, inl, inr, refl, sym, ap, subst, ◌∙◌, arith}
+use Rattle.std.proofs.Math.Seq.{take-append_seam}
+use Rattle.std.proofs.lemmas.List.{get_or_default}
 use Rattle.pg_program.specs.declared.syntax.Stmt.{Stmt}
 use Rattle.pg_program.specs.declared.point.Branch.{Branch}
 use Rattle.pg_program.specs.declared.point.Step.{Step}
@@ -17,16 +19,7 @@ use Rattle.pg_machine.specs.Held.{Held, HeldMemory, seen_in, Does, IsRefusal}
 
 -- the slice of a vector, written back
 pub refill : {X : Type 0} (n : ℕ) (new old : List X) → length new ≡ n → take n (new ++ drop (length new) old) ≡ new
-refill n new old e = subst (λ (m : ℕ). take m (new ++ drop (length new) old) ≡ new) e (front new (drop (length new) old))
-  where
-    front : {X : Type 0} (xs ys : List X) → take (length xs) (xs ++ ys) ≡ xs
-    front [] ys = refl
-    front {X} (x ∷ xs) ys = ap (λ (l : List X). x ∷ l) (front xs ys)
-
-pub get-any : {X : Type 0} (xs : List X) (i : ℕ) (a b : X) → i < length xs → get_or xs i a ≡ get_or xs i b
-get-any [] i a b lt = absurd (omega arith)
-get-any (x ∷ xs) zero a b lt = refl
-get-any (x ∷ xs) (suc i) a b lt = get-any xs i a b (omega arith)
+refill n new old e = subst (λ (m : ℕ). take m (new ++ drop (length new) old) ≡ new) e (take-append_seam new (drop (length new) old))
 
 -- what the parts of a step know of the state
 pub record Parts (p : ProgramTable) (s : State) (t k : ℕ) (stmt : Stmt) (d : ℕ) (m : HeldMemory) (w : Views) (r : List ℕ) : Type 0 where
@@ -104,7 +97,7 @@ parts_of p s memory views scalars points names t k u d stmt w r is low high thre
   views = here
       ∙ (ap (λ (n : ℕ). get_or views (n - 1) w) ut
       ∙ (ap (λ (l : List Views). get_or l (t - 1) w) (ap (λ (h : Held). h.state.views) is)
-      ∙ get-any s.state.views (t - 1) w (record { coh = []; vrn = 0; vpr = 0; vpa = []; vpc = [] }) (omega (arith, threads, low, high))));
+      ∙ get_or_default s.state.views (t - 1) w (record { coh = []; vrn = 0; vpr = 0; vpa = []; vpc = [] }) (omega (arith, threads, low, high))));
   scalars = rs ∙ ap (λ (h : Held). h.state.scalars) is;
 }
 

@@ -1,81 +1,28 @@
 -- What each move keeps of a thread's views, and of those of the others.
 use Rattle.std.proofs.Common.{◌≡◌, ℕ, zero, suc, ◌+◌, ◌<◌, ◌≤◌, ◌==◌, max, Bool, true, false, cond, List, [], ◌∷◌, ◌++◌, length, replicate, get_or, set, inl, inr, refl, sym, ap, ◌∙◌, arith}
 use Rattle.std.specs.List.{All}
-use Rattle.std.proofs.Math.Nat.{le-max_left, le-max_right, max-le}
-use Rattle.std.proofs.lemmas.Bool.{cases_eq, eqb-false}
-use Rattle.std.proofs.lemmas.List.{length-set, length-replicate, get_or-replicate, get_or-set_same, get_or-set_other}
-use Rattle.std.proofs.lemmas.List.Elements.{All-nil, All-cons, All-head, All-tail, All-weaker, All-set, All-replicate}
+use Rattle.std.proofs.Math.Nat.{max-le}
+use Rattle.std.proofs.lemmas.Bool.{cases_eq}
+use Rattle.std.proofs.lemmas.List.{length-set, length_push, length-replicate, get_or-replicate, get_or-set_same, get_or-set_other}
+use Rattle.std.proofs.lemmas.List.Elements.{All-weaker, All-set, All-replicate}
 use Rattle.pg_machine.specs.Memory.{Memory, is_to, is_at, message_appended}
 use Rattle.pg_machine.specs.State.{Views, greatest, coh_of, vpa_of, vpc_of, maxcoh, ordered, AreViews, fresh_views}
 use Rattle.pg_machine.specs.Moves.{greater, store_seen, load_seen, mfence_seen, sfence_seen, flush_seen, flushopt_seen, swap_seen}
-use Rattle.pg_machine.proofs.Scan.{greater-length}
+use Rattle.pg_machine.proofs.PositionLists.{greatest-above, greatest-raised, at-bounded, greater-bounded, greater-length}
+use Rattle.pg_machine.proofs.Appended.{same_number, is_to-front, is_to-new}
+use Rattle.pg_machine.proofs.ViewLaws.{maxcoh-within}
 
 -- ---- messages
-
-same_number : (x : ℕ) → (x == x) ≡ true
-same_number x = by (x == x) refl
-  where
-    by : (b : Bool) → (x == x) ≡ b → (x == x) ≡ true
-    by true e = e
-    by false e = absurd (eqb-false x x e refl)
-
-is_to-front : (ms : List (ℕ × ℕ)) (m : ℕ × ℕ) (y i : ℕ) → i < length ms → is_to (ms ++ m ∷ []) y i ≡ is_to ms y i
-is_to-front [] m y i lt = absurd (omega arith)
-is_to-front (a ∷ ms) m y zero lt = refl
-is_to-front (a ∷ ms) m y (suc i) lt = is_to-front ms m y i (omega arith)
-
-is_to-new : (ms : List (ℕ × ℕ)) (m : ℕ × ℕ) (y : ℕ) → is_to (ms ++ m ∷ []) y (length ms) ≡ (m.0 == y)
-is_to-new [] m y = refl
-is_to-new (a ∷ ms) m y = is_to-new ms m y
-
-pub length-appended : (ms : List (ℕ × ℕ)) (m : ℕ × ℕ) → length (ms ++ m ∷ []) ≡ suc (length ms)
-length-appended [] m = refl
-length-appended (a ∷ ms) m = ap suc (length-appended ms m)
 
 -- a position of a memory is one of the memory with a message more
 position-stays : (m : Memory) (st : ℕ × ℕ) (x c : ℕ) → c ≤ length m.messages → is_at m.messages x c ≡ true → is_at (message_appended m st).messages x c ≡ true
 position-stays m st x zero le h = refl
 position-stays m st x (suc i) le h = is_to-front m.messages st x i (omega (arith, le)) ∙ h
 
--- ---- lists of positions
-
-greatest-bounds : (ps : List ℕ) (i : ℕ) → get_or ps i 0 ≤ greatest ps
-greatest-bounds [] i = omega arith
-greatest-bounds (p ∷ ps) zero = le-max_left p (greatest ps)
-greatest-bounds (p ∷ ps) (suc i) =
-    let rest = greatest-bounds ps i in
-    let more = le-max_right p (greatest ps) in
-    omega (arith, rest, more)
-
-greatest-least : (ps : List ℕ) (m : ℕ) → ((i : ℕ) → i < length ps → get_or ps i 0 ≤ m) → greatest ps ≤ m
-greatest-least [] m h = omega arith
-greatest-least (p ∷ ps) m h = max-le (h 0 (omega arith)) (greatest-least ps m (λ i lt. h (suc i) (omega (arith, lt))))
-
-greatest-grows : (ps : List ℕ) (i v : ℕ) → get_or ps i 0 ≤ v → greatest ps ≤ greatest (set ps i v)
-greatest-grows [] i v le = omega arith
-greatest-grows (p ∷ ps) zero v le = omega arith
-greatest-grows (p ∷ ps) (suc i) v le = let rest = greatest-grows ps i v le in omega (arith, rest)
-
-greatest-has : (ps : List ℕ) (i v : ℕ) → i < length ps → v ≤ greatest (set ps i v)
-greatest-has ps i v lt =
-    let same = get_or-set_same ps i v 0 lt in
-    let top = greatest-bounds (set ps i v) i in
-    omega (arith, same, top)
-
-get-within : (m : ℕ) (ps : List ℕ) (i : ℕ) → All (λ p. p ≤ m) ps → get_or ps i 0 ≤ m
-get-within m [] i h = omega arith
-get-within m (p ∷ ps) zero h = All-head (λ (q : ℕ). q ≤ m) p ps h
-get-within m (p ∷ ps) (suc i) h = get-within m ps i (All-tail (λ (q : ℕ). q ≤ m) p ps h)
-
-greater-within : (m : ℕ) (ps qs : List ℕ) → All (λ p. p ≤ m) ps → All (λ p. p ≤ m) qs → All (λ p. p ≤ m) (greater ps qs)
-greater-within m [] qs h k = All-nil (λ (p : ℕ). p ≤ m)
-greater-within m (p ∷ ps) [] h k = h
-greater-within m (p ∷ ps) (q ∷ qs) h k =
-    All-cons (λ (r : ℕ). r ≤ m) (max p q) (greater ps qs) (max-le (All-head (λ (r : ℕ). r ≤ m) p ps h) (All-head (λ (r : ℕ). r ≤ m) q qs k))
-    (greater-within m ps qs (All-tail (λ (r : ℕ). r ≤ m) p ps h) (All-tail (λ (r : ℕ). r ≤ m) q qs k))
+-- ---- positions
 
 raised-within : (m : ℕ) (ps : List ℕ) (i n : ℕ) → All (λ p. p ≤ m) ps → n ≤ m → All (λ p. p ≤ m) (set ps i (max (get_or ps i 0) n))
-raised-within m ps i n h le = All-set (λ (p : ℕ). p ≤ m) ps i (max (get_or ps i 0) n) (max-le (get-within m ps i h) le) h
+raised-within m ps i n h le = All-set (λ (p : ℕ). p ≤ m) ps i (max (get_or ps i 0) n) (max-le (at-bounded ps m i h) le) h
 
 -- ---- views
 
@@ -98,7 +45,7 @@ mfence_views m w h = record {
   read = omega arith;
   ready = omega arith;
   asynchronous = h.asynchronous;
-  committed = greater-within (maxcoh w) w.vpc w.vpa h.committed h.asynchronous;
+  committed = greater-bounded w.vpc w.vpa (maxcoh w) h.committed h.asynchronous;
 }
 
 pub sfence_views : (m : Memory) (w : Views) → AreViews m w → AreViews m (sfence_seen w)
@@ -108,7 +55,7 @@ sfence_views m w h = record {
   read = let a = h.read in let b = h.ready in omega (arith, a, b);
   ready = omega arith;
   asynchronous = h.asynchronous;
-  committed = greater-within (maxcoh w) w.vpc w.vpa h.committed h.asynchronous;
+  committed = greater-bounded w.vpc w.vpa (maxcoh w) h.committed h.asynchronous;
 }
 
 pub flush_views : (m : Memory) (w : Views) (x : ℕ) → AreViews m w → AreViews m (flush_seen w x)
@@ -127,7 +74,7 @@ flushopt_views m w x h = record {
   coherent = h.coherent;
   read = h.read;
   ready = h.ready;
-  asynchronous = raised-within (maxcoh w) w.vpa x (ordered w x) h.asynchronous (max-le (greatest-bounds w.coh x) h.ready);
+  asynchronous = raised-within (maxcoh w) w.vpa x (ordered w x) h.asynchronous (max-le (greatest-above w.coh x) h.ready);
   committed = h.committed;
 }
 
@@ -160,14 +107,14 @@ cond-both false a c p h = omega arith
 pub load_views : (m : Memory) (w : Views) (x p : ℕ) → AreViews m w → x < length m.initial → is_at m.messages x p ≡ true → p ≤ length m.messages → coh_of w x ≤ p → AreViews m (load_seen w x p)
 load_views m w x p h inside at le from =
     let size = h.size.0 in
-    let grows = greatest-grows w.coh x p from in
-    let has = greatest-has w.coh x p (omega (arith, size, inside)) in
+    let top = greatest-raised w.coh x p (omega (arith, size, inside)) from in
+    let grows : maxcoh w ≤ greatest (set w.coh x p) = omega (arith, top) in
     let ready = h.ready in
     record {
       size = (length-set w.coh x p ∙ size, h.size.1);
       coherent = coherent-moved m w.coh x p h.coherent size inside le at;
       read = cond-both (p == coh_of w x) w.vrn w.vpr p h.read;
-      ready = cond-within (p == coh_of w x) w.vpr p (greatest (set w.coh x p)) (omega (arith, ready, grows)) has;
+      ready = cond-within (p == coh_of w x) w.vpr p (greatest (set w.coh x p)) (omega (arith, ready, grows)) (omega (arith, top));
       asynchronous = within-more (maxcoh w) (greatest (set w.coh x p)) w.vpa grows h.asynchronous;
       committed = within-more (maxcoh w) (greatest (set w.coh x p)) w.vpc grows h.committed;
     }
@@ -178,7 +125,7 @@ views_stay m st w h = record {
   size = h.size;
   coherent = λ x lt.
       let c = h.coherent x lt in
-      let long = length-appended m.messages st in
+      let long = length_push m.messages st in
       let le = c.0 in
       (omega (arith, le, long), position-stays m st x (get_or w.coh x 0) le c.1);
   read = h.read;
@@ -193,11 +140,12 @@ store_views m x v w h inside =
     let next = message_appended m (x, v) in
     let before = views_stay m (x, v) w h in
     let size = h.size.0 in
-    let long = length-appended m.messages (x, v) in
+    let long = length_push m.messages (x, v) in
     let new : suc n ≡ n + 1 = omega arith in
     let at : is_at next.messages x (n + 1) ≡ true = ap (is_at next.messages x) (sym new) ∙ (is_to-new m.messages (x, v) x ∙ same_number x) in
     let low = (h.coherent x inside).0 in
-    let grows = greatest-grows w.coh x (n + 1) (omega (arith, low)) in
+    let top = greatest-raised w.coh x (n + 1) (omega (arith, size, inside)) (omega (arith, low)) in
+    let grows : maxcoh w ≤ greatest (set w.coh x (n + 1)) = omega (arith, top) in
     let ready = h.ready in
     record {
       size = (length-set w.coh x (n + 1) ∙ size, h.size.1);
@@ -209,19 +157,14 @@ store_views m x v w h inside =
     }
 
 -- after a store the greatest coherence view is the position of its message
-set-within : (ps : List ℕ) (i v : ℕ) → greatest ps ≤ v → greatest (set ps i v) ≤ v
-set-within [] i v le = le
-set-within (p ∷ ps) zero v le = omega arith
-set-within (p ∷ ps) (suc i) v le = let rest = set-within ps i v (omega arith) in omega (arith, rest)
-
 pub top_stored : (m : Memory) (x : ℕ) (w : Views) → AreViews m w → x < length m.initial → maxcoh (store_seen w x (length m.messages + 1)) ≡ length m.messages + 1
 top_stored m x w h inside =
     let n = length m.messages in
     let size = h.size.0 in
-    let low : maxcoh w ≤ n = greatest-least w.coh n (λ i lt. (h.coherent i (omega (arith, size, lt))).0) in
-    let has = greatest-has w.coh x (n + 1) (omega (arith, size, inside)) in
-    let top = set-within w.coh x (n + 1) (omega (arith, low)) in
-    omega (arith, has, top)
+    let within = maxcoh-within m w h in
+    let low = (h.coherent x inside).0 in
+    let top = greatest-raised w.coh x (n + 1) (omega (arith, size, inside)) (omega (arith, low)) in
+    omega (arith, within, top)
 
 pub swap_is : (m : Memory) (x : ℕ) (w : Views) → AreViews m w → x < length m.initial → swap_seen w x (length m.messages + 1) ≡ mfence_seen (store_seen w x (length m.messages + 1))
 swap_is m x w h inside =

@@ -14,7 +14,7 @@ use std::alloc::{AllocError, Global};
 use std::marker::Model;
 
 /// The initial values, and the messages, each with its location and value.
-#[derive(Debug, Drop)]
+#[derive(Drop)]
 pub struct Memory {
     initial: Vec<u8>,
     messages: Vec<(u8, u8)>,

@@ -18,7 +18,7 @@ use std::alloc::{AllocError, Global};
 use std::marker::Model;
 
 /// A state of a program.
-#[derive(Debug, Drop)]
+#[derive(Drop)]
 pub struct State {
     memory: Memory,
     views: Vec<Views>,

@@ -9,7 +9,7 @@ use std::alloc::{AllocError, Global};
 use std::marker::Model;
 
 /// The positions that a thread has seen, and those that it has made persistent.
-#[derive(Debug, Drop)]
+#[derive(Drop)]
 pub struct Views {
     coh: Vec<u32>,
     vrn: u32,

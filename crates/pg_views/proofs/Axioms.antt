@@ -8,9 +8,11 @@ use Rattle.pg_machine.specs.Memory.{Memory, is_at, reaches, last, last_value, la
 use Rattle.pg_machine.specs.State.{Views, State, AreViews, coh_of, vpa_of, maxcoh, ordered, committed}
 use Rattle.pg_machine.specs.Moves.{Seen, can_read, loaded, load_seen}
 use Rattle.pg_machine.specs.Step.{views_of, seen_by}
-use Rattle.pg_machine.proofs.Scan.{is_at-within, last_upto-within}
+use Rattle.pg_machine.proofs.Scan.{is_at-within}
+use Rattle.pg_machine.proofs.Appended.{last_upto-within}
+use Rattle.pg_machine.proofs.PositionLists.{greatest-above, set-either}
 use Rattle.pg_machine.proofs.Reached.{Reaches, reaches_of, of_reaches, reaches-less, reaches-last, last_upto-max, load-less, load-alone, alone-least}
-use Rattle.pg_machine.proofs.ViewLaws.{coh-at, greatest-above}
+use Rattle.pg_machine.proofs.ViewLaws.{coh-at}
 use Rattle.pg_machine.proofs.Moved.{thread-views}
 use Rattle.pg_views.specs.Atom.{shows, is_shown, reads, may_read, may_read_then}
 use Rattle.pg_views.specs.Axioms.{HasThread, HasOneLastValue, HasOneScalarValue, LastIsShown, PendingMayPersist, NewestReadIsLast, NewestIsOrdered, OrderedIsFenced, ThenWasReadable, LastIsReadThen, ReadIsReadAgain, NewestLoadKeepsThen}
@@ -18,7 +20,7 @@ use Rattle.pg_views.proofs.Below.{some_below-here, shown-at}
 use Rattle.pg_views.proofs.Found.{locations-count}
 use Rattle.pg_views.proofs.Nested.{shown-within}
 use Rattle.pg_views.proofs.CrashLaw.{found, found-is, value-inside}
-use Rattle.pg_views.proofs.Readable.{newest-alone, may_read-same, set-cases}
+use Rattle.pg_views.proofs.Readable.{newest-alone, may_read-same}
 
 -- the views of a thread
 own : (p : ProgramTable) (s : State) (t : ℕ) → HasThread p s t → AreViews s.memory (views_of s t)
@@ -153,13 +155,13 @@ then_was_readable s t x v y w h =
 -- where x was loaded, the coherence views are positions still
 loaded-at : (m : Memory) (w : Views) (x p y : ℕ) → AreViews m w → is_at m.messages x p ≡ true → is_at m.messages y (coh_of (load_seen w x p) y) ≡ true
 loaded-at m w x p y h at = elim (cases_eq y x) [
-  | inl e ↦ ap (λ (l : ℕ). is_at m.messages l (get_or (set w.coh x p) l 0)) e ∙ here (set-cases w.coh x p x)
+  | inl e ↦ ap (λ (l : ℕ). is_at m.messages l (get_or (set w.coh x p) l 0)) e ∙ here (set-either w.coh x p x)
   | inr other ↦ ap (is_at m.messages y) (get_or-set_other w.coh x y p 0 other) ∙ coh-at m w h y
 ]
   where
-    here : (get_or (set w.coh x p) x 0 ≡ coh_of w x) ⊎ (get_or (set w.coh x p) x 0 ≡ p) → is_at m.messages x (get_or (set w.coh x p) x 0) ≡ true
+    here : (get_or (set w.coh x p) x 0 ≡ coh_of w x) ⊎ ((x ≡ x) × (get_or (set w.coh x p) x 0 ≡ p)) → is_at m.messages x (get_or (set w.coh x p) x 0) ≡ true
     here (inl same) = ap (is_at m.messages x) same ∙ coh-at m w h x
-    here (inr is) = ap (is_at m.messages x) is ∙ at
+    here (inr is) = ap (is_at m.messages x) is.1 ∙ at
 
 pub last_is_read_then : LastIsReadThen
 last_is_read_then p s t x v y w h is last-is =
@@ -175,7 +177,7 @@ again-reached : (n : Seen) (x p : ℕ) → can_read n x p ≡ true → can_read 
 again-reached n x p can =
     of_reaches ms x (coh_of (load_seen n.views x p) x) (load_seen n.views x p).vrn p (record {
       at = was.at;
-      from = from (set-cases n.views.coh x p x);
+      from = from (set-either n.views.coh x p x);
       last = last_from (p == coh_of n.views x);
     })
   where
@@ -185,9 +187,9 @@ again-reached n x p can =
     was : Reaches ms x (coh_of n.views x) n.views.vrn p
     was = reaches_of ms x (coh_of n.views x) n.views.vrn p can
 
-    from : (get_or (set n.views.coh x p) x 0 ≡ coh_of n.views x) ⊎ (get_or (set n.views.coh x p) x 0 ≡ p) → get_or (set n.views.coh x p) x 0 ≤ p
+    from : (get_or (set n.views.coh x p) x 0 ≡ coh_of n.views x) ⊎ ((x ≡ x) × (get_or (set n.views.coh x p) x 0 ≡ p)) → get_or (set n.views.coh x p) x 0 ≤ p
     from (inl same) = let a = was.from in omega (arith, same, a)
-    from (inr is) = omega (arith, is)
+    from (inr is) = let here = is.1 in omega (arith, here)
 
     last_from : (b : Bool) → last_upto ms x (cond b n.views.vrn (max n.views.vrn p)) ≤ p
     last_from true = was.last

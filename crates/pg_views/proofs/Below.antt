@@ -1,6 +1,6 @@
--- Tests of the numbers below a bound, and what a view shows.
+-- Tests of some number below a bound, and what a view shows.
 use Rattle.std.proofs.Common.{◌≡◌, ℕ, zero, suc, ◌<◌, ◌≤◌, Bool, true, false, not, ◌&&◌, ◌||◌, ◌==◌, nat_le, List, length, Option, Some, None, is_some, MatchOption, inl, inr, refl, sym, ap, subst, ◌∙◌, arith}
-use Rattle.std.proofs.lemmas.Bool.{cases_order, and_parts, true≢false, le-leb, eq-eqb, ne_eqb}
+use Rattle.std.proofs.lemmas.Bool.{cases_order, and_parts, and_from, and_left, and_right, or_left, or_right, or_from, false_from_ne_true, true≢false, le-leb, eq-eqb, ne_eqb}
 use Rattle.pg_machine.specs.Memory.{Memory, every_below, is_at, is_clear, reaches, last}
 use Rattle.pg_machine.specs.State.{coh_of}
 use Rattle.pg_machine.specs.Moves.{Seen, can_read}
@@ -10,88 +10,48 @@ use Rattle.pg_machine.proofs.Faults.{hidden-not_clear}
 use Rattle.pg_views.specs.Atom.{some_below, shows, is_shown}
 use Rattle.pg_views.specs.Parts.{IsFirstShown}
 
-or-first : (a b : Bool) → a ≡ true → (a || b) ≡ true
-or-first true b h = refl
-or-first false b h = absurd (true≢false (sym h))
-
-or-second : (a b : Bool) → b ≡ true → (a || b) ≡ true
-or-second true b h = refl
-or-second false b h = h
-
-or-none : (a b : Bool) → a ≡ false → b ≡ false → (a || b) ≡ false
-or-none false b h k = k
-or-none true b h k = absurd (true≢false h)
-
-pub and-first : (a b : Bool) → a ≡ false → (a && b) ≡ false
-and-first false b h = refl
-and-first true b h = absurd (true≢false h)
-
-pub and-second : (a b : Bool) → b ≡ false → (a && b) ≡ false
-and-second true b h = h
-and-second false b h = refl
-
-pub and-both : (a b : Bool) → a ≡ true → b ≡ true → (a && b) ≡ true
-and-both true b h k = k
-and-both false b h k = absurd (true≢false (sym h))
-
-pub is-false : (b : Bool) → (b ≡ true → ⊥) → b ≡ false
-is-false true h = absurd (h refl)
-is-false false h = refl
-
--- ---- some number, and every number
+-- ---- some number
 
 pub some_below-here : (f : ℕ → Bool) (n p : ℕ) → p < n → f p ≡ true → some_below f n ≡ true
 some_below-here f zero p lt h = absurd (omega arith)
 some_below-here f (suc n) p lt h = elim (cases_order p n) [
-  | inl e ↦ or-first (f n) (some_below f n) (ap f (sym e) ∙ h)
-  | inr (inl less) ↦ or-second (f n) (some_below f n) (some_below-here f n p less h)
+  | inl e ↦ or_left (f n) (some_below f n) (ap f (sym e) ∙ h)
+  | inr (inl less) ↦ or_right (f n) (some_below f n) (some_below-here f n p less h)
   | inr (inr more) ↦ absurd (omega arith)
 ]
 
 pub some_below-none : (f : ℕ → Bool) (n : ℕ) → ((p : ℕ) → p < n → f p ≡ false) → some_below f n ≡ false
 some_below-none f zero h = refl
-some_below-none f (suc n) h = or-none (f n) (some_below f n) (h n (omega arith)) (some_below-none f n (λ p lt. h p (omega arith)))
+some_below-none f (suc n) h = or_from (f n) (some_below f n) (h n (omega arith)) (some_below-none f n (λ p lt. h p (omega arith)))
 
 pub some_below-not : (f : ℕ → Bool) (n p : ℕ) → p < n → some_below f n ≡ false → f p ≡ false
-some_below-not f n p lt h = is-false (f p) (λ k. true≢false (sym (some_below-here f n p lt k) ∙ h))
+some_below-not f n p lt h = false_from_ne_true (f p) (λ k. true≢false (sym (some_below-here f n p lt k) ∙ h))
 
 pub some_below-implied : (f g : ℕ → Bool) (n : ℕ) → ((p : ℕ) → f p ≡ true → g p ≡ true) → some_below f n ≡ true → some_below g n ≡ true
 some_below-implied f g zero h k = k
 some_below-implied f g (suc n) h k = by (f n) refl k (λ r. some_below-implied f g n h r)
   where
     by : (b : Bool) → f n ≡ b → (b || some_below f n) ≡ true → (some_below f n ≡ true → some_below g n ≡ true) → some_below g (suc n) ≡ true
-    by true e r rest = or-first (g n) (some_below g n) (h n e)
-    by false e r rest = or-second (g n) (some_below g n) (rest r)
-
-pub every_below-all : (f : ℕ → Bool) (n : ℕ) → ((p : ℕ) → p < n → f p ≡ true) → every_below f n ≡ true
-every_below-all f zero h = refl
-every_below-all f (suc n) h = and-both (f n) (every_below f n) (h n (omega arith)) (every_below-all f n (λ p lt. h p (omega arith)))
-
-pub every_below-fails : (f : ℕ → Bool) (n p : ℕ) → p < n → f p ≡ false → every_below f n ≡ false
-every_below-fails f zero p lt h = absurd (omega arith)
-every_below-fails f (suc n) p lt h = elim (cases_order p n) [
-  | inl e ↦ and-first (f n) (every_below f n) (ap f (sym e) ∙ h)
-  | inr (inl less) ↦ and-second (f n) (every_below f n) (every_below-fails f n p less h)
-  | inr (inr more) ↦ absurd (omega arith)
-]
+    by true e r rest = or_left (g n) (some_below g n) (h n e)
+    by false e r rest = or_right (g n) (some_below g n) (rest r)
 
 -- ---- what a view shows
 
 -- a position that is hidden is not reached
 pub reaches-hidden : (ms : List (ℕ × ℕ)) (x c n p later : ℕ) → IsLeastHiding ms x p n later → reaches ms x c n p ≡ false
 reaches-hidden ms x c n p later h =
-    let clear = is-false (is_clear ms x p n) (λ k. hidden-not_clear ms x p n later h.hiding k) in
-    and-second (is_at ms x p) (nat_le c p && is_clear ms x p n) (and-second (nat_le c p) (is_clear ms x p n) clear)
+    let clear = false_from_ne_true (is_clear ms x p n) (λ k. hidden-not_clear ms x p n later h.hiding k) in
+    and_right (is_at ms x p) (nat_le c p && is_clear ms x p n) (and_right (nat_le c p) (is_clear ms x p n) clear)
 
 pub reaches-elsewhere : (ms : List (ℕ × ℕ)) (x c n p : ℕ) → is_at ms x p ≡ false → reaches ms x c n p ≡ false
-reaches-elsewhere ms x c n p h = and-first (is_at ms x p) (nat_le c p && is_clear ms x p n) h
+reaches-elsewhere ms x c n p h = and_left (is_at ms x p) (nat_le c p && is_clear ms x p n) h
 
 pub reaches-before : (ms : List (ℕ × ℕ)) (x c n p : ℕ) → nat_le c p ≡ false → reaches ms x c n p ≡ false
-reaches-before ms x c n p h = and-second (is_at ms x p) (nat_le c p && is_clear ms x p n) (and-first (nat_le c p) (is_clear ms x p n) h)
+reaches-before ms x c n p h = and_right (is_at ms x p) (nat_le c p && is_clear ms x p n) (and_left (nat_le c p) (is_clear ms x p n) h)
 
 pub reaches-all : (ms : List (ℕ × ℕ)) (x c n p : ℕ) → is_at ms x p ≡ true → nat_le c p ≡ true → is_clear ms x p n ≡ true → reaches ms x c n p ≡ true
 reaches-all ms x c n p at from clear =
-    and-both (is_at ms x p) (nat_le c p && is_clear ms x p n) at (and-both (nat_le c p) (is_clear ms x p n) from clear)
+    and_from (is_at ms x p) (nat_le c p && is_clear ms x p n) at (and_from (nat_le c p) (is_clear ms x p n) from clear)
 
 -- where a position shows a value, the value is shown
 pub shown-at : (m : Memory) (x c n v p : ℕ) → shows m x c n v p ≡ true → is_shown m x c n v ≡ true
@@ -133,10 +93,10 @@ first-same l m x c n y d k v p b e f g h =
 -- ---- the last position alone
 
 pub newest-unread : (n : Seen) (x q : ℕ) → can_read n x q ≡ false → (not (can_read n x q) || (q == last n.memory.messages x)) ≡ true
-newest-unread n x q h = or-first (not (can_read n x q)) (q == last n.memory.messages x) (ap not h)
+newest-unread n x q h = or_left (not (can_read n x q)) (q == last n.memory.messages x) (ap not h)
 
 pub newest-last : (n : Seen) (x q : ℕ) → q ≡ last n.memory.messages x → (not (can_read n x q) || (q == last n.memory.messages x)) ≡ true
-newest-last n x q h = or-second (not (can_read n x q)) (q == last n.memory.messages x) (eq-eqb q (last n.memory.messages x) h)
+newest-last n x q h = or_right (not (can_read n x q)) (q == last n.memory.messages x) (eq-eqb q (last n.memory.messages x) h)
 
 pub newest-other : (n : Seen) (x q : ℕ) → can_read n x q ≡ true → (q ≡ last n.memory.messages x → ⊥) → (not (can_read n x q) || (q == last n.memory.messages x)) ≡ false
-newest-other n x q h k = or-none (not (can_read n x q)) (q == last n.memory.messages x) (ap not h) (ne_eqb q (last n.memory.messages x) k)
+newest-other n x q h k = or_from (not (can_read n x q)) (q == last n.memory.messages x) (ap not h) (ne_eqb q (last n.memory.messages x) k)

@@ -21,8 +21,8 @@ use Rattle.pg_views.specs.Formula.{holds}
 use Rattle.pg_views.specs.Crash.{survives, IsCrashChoice, values_at, crash_memory}
 use Rattle.pg_views.specs.CrashLaw.{ExpansionIsEnough, ExpansionIsNeeded, ExpansionIsExact, PersistsWhereLeft}
 use Rattle.pg_views.proofs.Below.{shown-at}
-use Rattle.pg_views.proofs.Found.{locations-count}
-use Rattle.pg_views.proofs.Filled.{Is, Persists, among, graph, graph-keys, graph-agrees, named-inside, named-behind, choice-none, choice-persists, conjunction-parts, conjunction-whole, implied, implies-then, term-premise, premise-holds, fill-is, All-unmap}
+use Rattle.pg_views.proofs.Found.{values_at-length, locations-count}
+use Rattle.pg_views.proofs.Filled.{Is, Persists, among, graph, graph-keys, graph-agrees, named-inside, named-past, choice-none, choice-persists, conjunction-parts, conjunction-whole, implied, implies-then, term-premise, premise-holds, fill-is, All-unmap}
 
 -- ---- what the expansion says
 
@@ -52,10 +52,6 @@ expansion-made s d (x ∷ xs) f h =
 
 -- ---- the memory that a crash leaves
 
-length-values_at : (m : Memory) (a : ℕ) (ps : List ℕ) → length (values_at m a ps) ≡ length ps
-length-values_at m a [] = refl
-length-values_at m a (p ∷ ps) = ap suc (length-values_at m (suc a) ps)
-
 values_at-get : (m : Memory) (a : ℕ) (ps : List ℕ) (i : ℕ) → i < length ps → get_or (values_at m a ps) i 0 ≡ value_at m (a + i) (get_or ps i 0)
 values_at-get m a [] i lt = absurd (omega arith)
 values_at-get m a (p ∷ ps) zero lt = let e : a ≡ a + 0 = omega arith in ap (λ (x : ℕ). value_at m x p) e
@@ -70,7 +66,7 @@ crash_memory-at s ps x lt =
     values_at-get s.memory 0 ps x lt ∙ ap (λ (y : ℕ). value_at s.memory y (get_or ps x 0)) e
 
 pub length-crash_memory : (s : State) (ps : List ℕ) → length (crash_memory s ps) ≡ length ps
-length-crash_memory s ps = length-values_at s.memory 0 ps
+length-crash_memory s ps = values_at-length s.memory 0 ps
 
 -- ---- the expansion is enough
 
@@ -202,11 +198,11 @@ kept-agrees s n f w count keys can x m = elim (cases_lt x n) [
       let there : among (map (λ e. e.0) w) x ≡ true = ap (λ (l : List ℕ). among l x) keys ∙ named-inside n f x m inside in
       let shown = kept-shows s x (value_in w x) (choice-persists s w x can there) in
       sym (crash_memory-at s (kept s w) x (omega (arith, size, here)) ∙ (ap (value_at s.memory x) (kept-get s w x here) ∙ shown.1))
-  | inr behind ↦
+  | inr past ↦
       let a = length-crash_memory s (kept s w) in
       let b = kept-size s w in
-      let none : among (map (λ e. e.0) w) x ≡ false = ap (λ (l : List ℕ). among l x) keys ∙ named-behind n f x behind in
-      choice-none w x none ∙ sym (get_or_past (crash_memory s (kept s w)) x 0 (omega (arith, a, b, count, behind)))
+      let none : among (map (λ e. e.0) w) x ≡ false = ap (λ (l : List ℕ). among l x) keys ∙ named-past n f x past in
+      choice-none w x none ∙ sym (get_or_past (crash_memory s (kept s w)) x 0 (omega (arith, a, b, count, past)))
 ]
 
 pub expansion_is_needed : ExpansionIsNeeded

@@ -108,10 +108,10 @@ among-range a (suc n) x low high = elim (cases_lt a x) [
   | inr le ↦ or_left (a == x) (among (range_with_len (a + 1) n) x) (eq-eqb a x (omega (arith, le)))
 ]
 
-among-behind : (a n x : ℕ) → a + n ≤ x → among (range_with_len a n) x ≡ false
-among-behind a zero x behind = refl
-among-behind a (suc n) x behind =
-    or_from (a == x) (among (range_with_len (a + 1) n) x) (ne_eqb a x (λ e. omega (arith, e))) (among-behind (a + 1) n x (omega arith))
+among-past : (a n x : ℕ) → a + n ≤ x → among (range_with_len a n) x ≡ false
+among-past a zero x behind = refl
+among-past a (suc n) x behind =
+    or_from (a == x) (among (range_with_len (a + 1) n) x) (ne_eqb a x (λ e. omega (arith, e))) (among-past (a + 1) n x (omega arith))
 
 -- of the first n locations those that the formula names
 pub named-inside : (n : ℕ) (f : Plain CrashAtom) (x : ℕ) → mentions x f ≡ true → x < n → among (named n f) x ≡ true
@@ -119,10 +119,10 @@ named-inside n f x m lt =
     among-filter (λ y. mentions y f) (range_with_len 0 n) x
     ∙ and_from (among (range_with_len 0 n) x) (mentions x f) (among-range 0 n x (omega arith) (omega (arith, lt))) m
 
-pub named-behind : (n : ℕ) (f : Plain CrashAtom) (x : ℕ) → n ≤ x → among (named n f) x ≡ false
-named-behind n f x le =
+pub named-past : (n : ℕ) (f : Plain CrashAtom) (x : ℕ) → n ≤ x → among (named n f) x ≡ false
+named-past n f x le =
     among-filter (λ y. mentions y f) (range_with_len 0 n) x
-    ∙ and_left (among (range_with_len 0 n) x) (mentions x f) (among-behind 0 n x (omega (arith, le)))
+    ∙ and_left (among (range_with_len 0 n) x) (mentions x f) (among-past 0 n x (omega (arith, le)))
 
 -- ---- the values that a memory has there
 
@@ -145,8 +145,8 @@ graph-value memory (y ∷ ys) x = by (y == x) refl (graph-value memory ys x)
 pub graph-agrees : (memory : List ℕ) (n : ℕ) (f : Plain CrashAtom) → length memory ≤ n → (x : ℕ) → mentions x f ≡ true → value_in (graph memory (named n f)) x ≡ get_or memory x 0
 graph-agrees memory n f short x m = graph-value memory (named n f) x ∙ elim (cases_lt x n) [
   | inl inside ↦ ap (λ (b : Bool). cond b (get_or memory x 0) 0) (named-inside n f x m inside)
-  | inr behind ↦
-      ap (λ (b : Bool). cond b (get_or memory x 0) 0) (named-behind n f x behind) ∙ sym (get_or_past memory x 0 (omega (arith, short, behind)))
+  | inr past ↦
+      ap (λ (b : Bool). cond b (get_or memory x 0) 0) (named-past n f x past) ∙ sym (get_or_past memory x 0 (omega (arith, short, past)))
 ]
 
 -- ---- the values of a choice

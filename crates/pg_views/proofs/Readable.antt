@@ -7,10 +7,12 @@ use Rattle.pg_machine.specs.State.{Views, AreViews, coh_of}
 use Rattle.pg_machine.specs.Moves.{Seen, can_read, loaded, load_seen, mfence_seen}
 use Rattle.pg_machine.proofs.Scan.{is_at-within}
 use Rattle.pg_machine.proofs.Reached.{least, reaches_of, reaches-less, reaches-within, last_upto-grows, alone-least, load-least, load-same, load-alone, same_truth}
-use Rattle.pg_machine.proofs.ViewLaws.{coh-at, set-grows}
+use Rattle.pg_machine.proofs.EveryBelow.{every_below-fails}
+use Rattle.pg_machine.proofs.PositionLists.{set-grows, set-either}
+use Rattle.pg_machine.proofs.ViewLaws.{coh-at, view-loaded}
 use Rattle.pg_views.specs.Atom.{some_below, shows, reads, may_read, reads_newest}
 use Rattle.pg_views.specs.Laws.{NewestLoadKeepsReads, NewestLoadKeepsValues, IsRaised, RaisedReadsLess, RaisesViews, LoadAtCoherenceRaisesNothing}
-use Rattle.pg_views.proofs.Below.{some_below-implied, every_below-fails, newest-other}
+use Rattle.pg_views.proofs.Below.{some_below-implied, newest-other}
 use Rattle.pg_views.proofs.Nested.{shown-within}
 
 -- ---- views that are raised
@@ -64,22 +66,15 @@ raised_reads_less n v h = (
 pub read-raised : (w : Views) (r : ℕ) → w.vrn ≤ r → IsRaised w (record w { vrn = r })
 read-raised w r le = record { size = refl; coh = λ x. omega arith; read = le; moved = λ x other. absurd (other refl) }
 
-pub set-cases : (c : List ℕ) (x p y : ℕ) → (get_or (set c x p) y 0 ≡ get_or c y 0) ⊎ (get_or (set c x p) y 0 ≡ p)
-set-cases [] x p y = inl refl
-set-cases (a ∷ c) zero p zero = inr refl
-set-cases (a ∷ c) zero p (suc y) = inl refl
-set-cases (a ∷ c) (suc x) p zero = inl refl
-set-cases (a ∷ c) (suc x) p (suc y) = set-cases c x p y
-
 -- the coherence view of x is raised to p, and the read view to p at least
 pub coh-raised : (w v : Views) (x p : ℕ) → v.coh ≡ set w.coh x p → coh_of w x ≤ p → w.vrn ≤ v.vrn → p ≤ v.vrn → IsRaised w v
 coh-raised w v x p is le read upto = record {
   size = sym (ap length is ∙ length-set w.coh x p);
   coh = λ y. let e = at y in let grows = set-grows w.coh x p y le in omega (arith, e, grows);
   read = read;
-  moved = λ y other. let e = at y in elim (set-cases w.coh x p y) [
+  moved = λ y other. let e = at y in elim (set-either w.coh x p y) [
     | inl same ↦ absurd (other (sym (e ∙ same)))
-    | inr here ↦ omega (arith, e, here, upto)
+    | inr here ↦ let is = here.1 in omega (arith, e, is, upto)
   ];
 }
   where
@@ -144,11 +139,6 @@ set-alike (a ∷ c) (b ∷ d) zero p (suc z) e h = h
 set-alike (a ∷ c) (b ∷ d) (suc y) p zero e h = h
 set-alike (a ∷ c) (b ∷ d) (suc y) p (suc z) e h = set-alike c d y p z (omega arith) h
 
--- the read view that a load leaves
-pub read-after : (b : Bool) (n p : ℕ) → n ≤ cond b n (max n p)
-read-after true n p = omega arith
-read-after false n p = omega arith
-
 -- a load of x at its last position, which alone may be read, and then of y at p, against that of y at p alone
 module _ (n : Seen) (x : ℕ) (h : AreViews n.memory n.views) (inside : x < length n.memory.initial) (newest : reads_newest n x ≡ true) where
   abbrev top : ℕ
@@ -198,7 +188,7 @@ module _ (n : Seen) (x : ℕ) (h : AreViews n.memory n.views) (inside : x < leng
             let right : get_or (set n.views.coh y p) z 0 ≡ coh_of n.views x =
             ap (λ (l : ℕ). get_or (set n.views.coh y p) l 0) e ∙ get_or-set_other n.views.coh y x p 0 (λ k. other (sym k)) in
             ap₂ (λ (l c : ℕ). reaches n.memory.messages l c (load_seen n.views y p).vrn q) e left
-            ∙ (top-from (load_seen n.views y p).vrn q (read-after (p == coh_of n.views y) n.views.vrn p)
+            ∙ (top-from (load_seen n.views y p).vrn q (view-loaded (p == coh_of n.views y) n.views.vrn p)
             ∙ sym (ap₂ (λ (l c : ℕ). reaches n.memory.messages l c (load_seen n.views y p).vrn q) e right))
         | inr apart ↦
             ap (λ (c : ℕ). reaches n.memory.messages z c (load_seen n.views y p).vrn q)

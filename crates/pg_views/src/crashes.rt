@@ -13,7 +13,7 @@ use std::alloc::{AllocError, Global};
 use std::marker::Model;
 
 /// A memory that a crash leaves: one value of each location.
-#[derive(Debug, Drop)]
+#[derive(Drop)]
 pub struct Nvm {
     values: Vec<u8>,
 }

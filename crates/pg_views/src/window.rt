@@ -8,7 +8,7 @@ ghost use Rattle.pg_views.specs.Parts.{IsFirstShown};
 use pg_machine::Memory;
 
 /// The positions of a location from `from` on that no message to it up to `upto` hides.
-#[derive(Clone, Copy, Debug)]
+#[derive(Clone, Copy)]
 pub struct Window {
     pub location: u8,
     pub from: u32,

@@ -3,7 +3,8 @@ use Rattle.std.proofs.lemmas.Bool.{cases_lt}
 use Rattle.pg_machine.specs.Memory.{Memory, last}
 use Rattle.pg_machine.specs.Moves.{can_read}
 use Rattle.pg_machine.specs.Step.{seen_by}
-use Rattle.pg_views.proofs.Below.{every_below-all, every_below-fails, read-same, newest-unread, newest-last, newest-other}
+use Rattle.pg_machine.proofs.EveryBelow.{every_below-all, every_below-fails}
+use Rattle.pg_views.proofs.Below.{read-same, newest-unread, newest-last, newest-other}
 use Rattle.pg_views.proofs.atom.reads_newest.Goals.{else-position-last-via-then-position-last+else-reaches, else-position-last-via-else-position-last}
 use Rattle.pg_views.proofs.atom.reads_newest.Goals as goal
 

@@ -1,5 +1,5 @@
 use Rattle.std.proofs.Common.{◌≡◌, ℕ, ◌≤◌, List, length, sym, subst, ◌∙◌}
-use Rattle.pg_machine.proofs.Scan.{last_upto-within}
+use Rattle.pg_machine.proofs.Appended.{last_upto-within}
 use Rattle.pg_machine.proofs.memory.Memory.last_value.Goals as goal
 
 pub value_at-requires-clause-position : goal.value_at-requires-clause-position

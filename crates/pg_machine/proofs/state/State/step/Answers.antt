@@ -1,23 +1,24 @@
-use Rattle.std.proofs.Common.{◌≡◌, Some, ap, sym, ◌∙◌, arith}
+use Rattle.std.proofs.Common.{rules, ◌≡◌, Some, ap, sym, ◌∙◌, arith}
 use Rattle.pg_program.specs.Program.{stmt_at}
 use Rattle.pg_machine.specs.State.{point_of}
-use Rattle.pg_machine.proofs.Faults.{Answered, answers_exactly, answers_steps}
+use Rattle.pg_machine.proofs.Faults.{Answered, answers_exactly, answers_steps, answers_fault}
 use Rattle.pg_machine.proofs.WellFormed.{answered_kept}
 use Rattle.pg_machine.proofs.state.State.step.Goals as goal
 
-pub returns-in-Some-clause-kept : goal.returns-in-Some-clause-kept
-returns-in-Some-clause-kept c =
-    answered_kept c.args.p.now c.args.self.now.state c.args.event c.take.new.self.state c.take.result c.take.ensures.built c.requires c.take.ensures.ok c.take.ensures.unchanged
-
-pub returns-in-Some-clause-exact : goal.returns-in-Some-clause-exact
-returns-in-Some-clause-exact c =
+pub returns-in-Some : goal.returns-in-Some
+returns-in-Some c =
+    let p = c.args.p.now in
+    let s = c.args.self.now.state in
+    let e = c.args.event in
+    let new = c.take.new.self.state in
+    let spare = c.args.self.now.spare in
+    let r = c.take.result in
     let low = c.if-event-lt1.false in
     let high = c.if-event-from.false in
     let count = c.from.ensures in
     let threads = c.threads.ensures in
-    let at : stmt_at c.args.p.now c.args.event.thread (point_of c.args.self.now.state c.args.event.thread) ≡ Some c.in-Some.stmt.now =
-    ap (stmt_at c.args.p.now c.args.event.thread) (sym c.point.ensures) ∙ sym c.in-Some.ensures in
-    let answered : Answered c.args.p.now c.args.self.now.state c.args.event c.take.new.self.state c.args.self.now.spare c.take.result = record {
+    let at : stmt_at p e.thread (point_of s e.thread) ≡ Some c.in-Some.stmt.now = ap (stmt_at p e.thread) (sym c.point.ensures) ∙ sym c.in-Some.ensures in
+    let answered : Answered p s e new spare r = record {
       thread = (omega arith, omega (arith, high, count, threads));
       stmt = c.in-Some.stmt.now;
       stands = at;
@@ -25,22 +26,13 @@ returns-in-Some-clause-exact c =
       few = c.take.ensures.within;
       err = c.take.ensures.err;
     } in
-    answers_exactly c.args.p.now c.args.self.now.state c.args.event c.take.new.self.state c.args.self.now.spare c.take.result answered
-
-pub returns-in-Some-clause-complete : goal.returns-in-Some-clause-complete
-returns-in-Some-clause-complete c =
-    let low = c.if-event-lt1.false in
-    let high = c.if-event-from.false in
-    let count = c.from.ensures in
-    let threads = c.threads.ensures in
-    let at : stmt_at c.args.p.now c.args.event.thread (point_of c.args.self.now.state c.args.event.thread) ≡ Some c.in-Some.stmt.now =
-    ap (stmt_at c.args.p.now c.args.event.thread) (sym c.point.ensures) ∙ sym c.in-Some.ensures in
-    let answered : Answered c.args.p.now c.args.self.now.state c.args.event c.take.new.self.state c.args.self.now.spare c.take.result = record {
-      thread = (omega arith, omega (arith, high, count, threads));
-      stmt = c.in-Some.stmt.now;
-      stands = at;
+    record {
       ok = c.take.ensures.ok;
-      few = c.take.ensures.within;
-      err = c.take.ensures.err;
-    } in
-    answers_steps c.args.p.now c.args.self.now.state c.args.event c.take.new.self.state c.args.self.now.spare c.take.result answered
+      err = answers_fault p s e new spare r answered;
+      kept = answered_kept p s e new r c.take.ensures.built c.requires c.take.ensures.ok c.take.ensures.unchanged;
+      within = search rules;
+      exact = answers_exactly p s e new spare r answered;
+      complete = answers_steps p s e new spare r answered;
+      unchanged = c.take.ensures.unchanged;
+      spare = c.take.ensures.spare;
+    }

@@ -1,6 +1,6 @@
 use Rattle.std.proofs.Common.{length, sym, ap, ◌∙◌}
 use Rattle.pg_machine.specs.State.{Views}
-use Rattle.pg_machine.proofs.Scan.{greater-length}
+use Rattle.pg_machine.proofs.PositionLists.{greater-length}
 use Rattle.pg_machine.proofs.views.Views.miss.Goals as goal
 
 pub mfence-requires-2 : goal.mfence-requires-2
