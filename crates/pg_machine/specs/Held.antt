@@ -1,11 +1,13 @@
 -- What a contract sees of the machine's own types: beside a memory or a state, for how many more messages there is room.
-use Rattle.std.specs.Prelude.{◌≡◌, ℕ, ◌<◌, ◌≤◌, ◌⊎◌, List, Option, Result, All, IfErr, length}
+use Rattle.std.specs.Prelude.{◌≡◌, ℕ, ◌<◌, ◌≤◌, ◌⊎◌, Bool, true, false, List, Option, Result, All, IfErr, length}
 use Rattle.pg_machine.specs.declared.fault.StepFault.{StepFault}
 use Rattle.pg_machine.specs.declared.fault.StepFault.TheVariants.{NoMemory}
 use Rattle.pg_machine.specs.Memory.{Memory}
 use Rattle.pg_machine.specs.State.{Views, State}
 use Rattle.pg_machine.specs.Moves.{Seen}
 use Rattle.pg_program.specs.declared.syntax.Stmt.{Stmt}
+use Rattle.pg_program.specs.declared.syntax.Act.{Act}
+use Rattle.pg_program.specs.declared.syntax.Act.TheOpen.{Act-F, Load, Store, Cas}
 use Rattle.pg_program.specs.Program.{ProgramTable}
 use Rattle.pg_machine.specs.declared.event.Event.{Event}
 use Rattle.pg_machine.specs.declared.fault.TheConstants.{MAX_MESSAGES}
@@ -42,6 +44,13 @@ pub record AreSized (m : HeldMemory) (w : Views) : Type 0 where
 pub record AreBelow (d : ℕ) (m : HeldMemory) : Type 0 where
   pub initial : All (λ v. v < d) m.memory.initial
   pub messages : All (λ s. s.1 < d) m.memory.messages
+
+-- the acts that read or write a location
+abbrev pub needs_memory : Act-F Act Stmt → Bool
+needs_memory (Load q x) = true
+needs_memory (Store x e) = true
+needs_memory (Cas q x e f) = true
+needs_memory act = false
 
 -- what a statement leaves: its act leaves what its row says, and then its bracket takes effect
 pub record Does (d : ℕ) (n : Seen) (r : List ℕ) (stmt : Stmt) (choice : Option ℕ) (after : Left) : Type 0 where

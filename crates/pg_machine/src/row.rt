@@ -1,6 +1,6 @@
 //! The row of each statement: what its act does by an event, and the branch that is taken.
 
-ghost use Rattle.std.specs.Prelude.{◌≡◌, ◌+◌, ◌<◌, ◌≤◌, length, if◌then◌else◌, All, IsSome, Some, IfErr, OnOk, OnErr};
+ghost use Rattle.std.specs.Prelude.{◌≡◌, ◌+◌, ◌<◌, ◌≤◌, length, if◌then◌else◌, false, All, IsSome, Some, None, IfErr, OnOk, OnErr};
 ghost use Rattle.pg_program.specs.declared.syntax.Act.{out-Act};
 ghost use Rattle.pg_program.specs.Fault.{outside_in, locations_in, scalars_of, locations_of};
 ghost use Rattle.pg_program.specs.Graph.{target_of};
@@ -8,7 +8,7 @@ ghost use Rattle.pg_program.specs.Expr.{reads};
 ghost use Rattle.pg_machine.specs.Step.{Row, leaves, act_of, branch_taken, bracket_done};
 ghost use Rattle.pg_machine.specs.Fault.{RowFault};
 ghost use Rattle.pg_machine.specs.declared.fault.TheConstants.{MAX_MESSAGES};
-ghost use Rattle.pg_machine.specs.Held.{seen_in, IsRefusal, AreSized, AreBelow, Does};
+ghost use Rattle.pg_machine.specs.Held.{HeldMemory, seen_in, IsRefusal, AreSized, AreBelow, needs_memory, Does};
 
 use crate::access::{load, miss, store, swap};
 use crate::fault::StepFault;
@@ -66,54 +66,121 @@ pub fn act(
     ensures unchanged { OnErr result ((seen_in memory.new views.new ≡ seen_in memory.old views.old) × (scalars.new ≡ scalars.old)) }
     ensures spare { memory.old.spare + length memory.old.memory.messages ≤ memory.new.spare + length memory.new.memory.messages }
 {
-    match (act, choice) {
-        (Act::Load { target, location }, Some(position)) => {
+    match choice {
+        Some(position) => read(act, position, domain, memory, views, scalars),
+        None => act_alone(act, domain, memory, views, scalars),
+    }
+}
+
+/// Does an act by an event that chooses a position: a load, or a failing cas. It writes no message.
+fn read(
+    act: &Act,
+    position: u32,
+    domain: u32,
+    memory: &Memory,
+    views: &mut Views,
+    scalars: &mut [u8],
+) -> Result<(), StepFault>
+    requires domain { (2 ≤ domain) × (domain ≤ 6) }
+    requires values { All (λ v. v < domain) scalars.old }
+    requires scalars { All (λ r. r < length scalars.old) (outside_in (out-Act act.now)) }
+    requires locations { All (λ x. x < length memory.now.memory.initial) (locations_in (out-Act act.now)) }
+    requires sizes { AreSized memory.now views.old }
+    requires stored { AreBelow domain memory.now }
+    ensures ok { OnOk result (Row domain (seen_in memory.now views.old) scalars.old (out-Act act.now) (Some position) (leaves (seen_in memory.now views.new) scalars.new)) }
+    ensures err { IfErr result (λ f. RowFault domain (seen_in memory.now views.old) scalars.old (out-Act act.now) (Some position) f) }
+    ensures values { All (λ v. v < domain) scalars.new }
+    ensures unchanged { OnErr result ((seen_in memory.now views.new ≡ seen_in memory.now views.old) × (scalars.new ≡ scalars.old)) }
+{
+    match act {
+        Act::Load { target, location } => {
             let value = load(memory, views, *location, position)?;
             scalars[usize::from(*target)] = value;
+            Ok(())
         }
-        (Act::Load { .. }, None) => return Err(StepFault::ChoiceMissing),
-        (
-            Act::Cas {
-                target,
-                location,
-                expected,
-                ..
-            },
-            Some(position),
-        ) => {
+        Act::Cas {
+            target,
+            location,
+            expected,
+            ..
+        } => {
             let other = eval(expected, scalars, domain);
             let value = miss(memory, views, *location, position, other)?;
             scalars[usize::from(*target)] = value;
+            Ok(())
         }
-        (
-            Act::Cas {
-                target,
-                location,
-                expected,
-                desired,
-            },
-            None,
-        ) => {
+        _ => Err(StepFault::NoChoice),
+    }
+}
+
+/// Does an act by an event that chooses no position.
+fn act_alone(
+    act: &Act,
+    domain: u32,
+    memory: &mut Memory,
+    views: &mut Views,
+    scalars: &mut [u8],
+) -> Result<(), StepFault>
+    requires domain { (2 ≤ domain) × (domain ≤ 6) }
+    requires values { All (λ v. v < domain) scalars.old }
+    requires scalars { All (λ r. r < length scalars.old) (outside_in (out-Act act.now)) }
+    requires locations { All (λ x. x < length memory.old.memory.initial) (locations_in (out-Act act.now)) }
+    requires sizes { AreSized memory.old views.old }
+    requires few { length memory.old.memory.messages ≤ MAX_MESSAGES }
+    ensures ok { OnOk result (Row domain (seen_in memory.old views.old) scalars.old (out-Act act.now) None (leaves (seen_in memory.new views.new) scalars.new)) }
+    ensures err { IfErr result (λ f. IsRefusal (RowFault domain (seen_in memory.old views.old) scalars.old (out-Act act.now) None) memory.old.spare f) }
+    ensures values { All (λ v. v < domain) scalars.new }
+    ensures within { length memory.new.memory.messages ≤ MAX_MESSAGES }
+    ensures unchanged { OnErr result ((seen_in memory.new views.new ≡ seen_in memory.old views.old) × (scalars.new ≡ scalars.old)) }
+    ensures spare { memory.old.spare + length memory.old.memory.messages ≤ memory.new.spare + length memory.new.memory.messages }
+{
+    match act {
+        Act::Load { .. } => Err(StepFault::ChoiceMissing),
+        Act::Cas {
+            target,
+            location,
+            expected,
+            desired,
+        } => {
             let last = eval(expected, scalars, domain);
             let next = eval(desired, scalars, domain);
             swap(memory, views, *location, last, next)?;
             scalars[usize::from(*target)] = last;
+            Ok(())
         }
-        (_, Some(_)) => return Err(StepFault::NoChoice),
-        (Act::Assign { target, expr }, None) => {
+        Act::Store { location, expr } => {
+            let value = eval(expr, scalars, domain);
+            store(memory, views, *location, value)
+        }
+        _ => {
+            move_views(act, domain, views, scalars);
+            Ok(())
+        }
+    }
+}
+
+/// Does an act that neither reads nor writes a location.
+fn move_views(act: &Act, domain: u32, views: &mut Views, scalars: &mut [u8])
+    requires kind { needs_memory (out-Act act.now) ≡ false }
+    requires domain { (2 ≤ domain) × (domain ≤ 6) }
+    requires values { All (λ v. v < domain) scalars.old }
+    requires scalars { All (λ r. r < length scalars.old) (outside_in (out-Act act.now)) }
+    requires locations { All (λ x. x < length views.old.coh) (locations_in (out-Act act.now)) }
+    requires vpa { length views.old.vpa ≡ length views.old.coh }
+    requires vpc { length views.old.vpc ≡ length views.old.coh }
+    ensures row { (m : HeldMemory) → Row domain (seen_in m views.old) scalars.old (out-Act act.now) None (leaves (seen_in m views.new) scalars.new) }
+    ensures values { All (λ v. v < domain) scalars.new }
+{
+    match act {
+        Act::Assign { target, expr } => {
             scalars[usize::from(*target)] = eval(expr, scalars, domain);
         }
-        (Act::Store { location, expr }, None) => {
-            let value = eval(expr, scalars, domain);
-            store(memory, views, *location, value)?;
-        }
-        (Act::Mfence, None) => views.mfence(),
-        (Act::Sfence, None) => views.sfence(),
-        (Act::Flush { location }, None) => views.flush(*location),
-        (Act::Flushopt { location }, None) => views.flushopt(*location),
-        (Act::If { .. } | Act::While { .. }, None) => {}
+        Act::Mfence => views.mfence(),
+        Act::Sfence => views.sfence(),
+        Act::Flush { location } => views.flush(*location),
+        Act::Flushopt { location } => views.flushopt(*location),
+        _ => {}
     }
-    Ok(())
 }
 
 /// The branch that is taken: of a test that of its truth.
