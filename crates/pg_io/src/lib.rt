@@ -18,7 +18,4 @@ mod real;
 pub use memory_room::{MemoryRoom, QuietRoom};
 pub use memory_sink::{MemorySink, QuietSink};
 pub use outside::{Room, RoomFault, Sink, SinkFault};
-pub use real::{FileRoom, StdSink};
-
-#[cfg(test)]
-mod tests;
+pub use real::{FileRoom, StdSink, read_within};

@@ -1,11 +1,11 @@
 // A real file system as a room, and a real standard output as a sink.
-ghost use Rattle.std.specs.Prelude.{◌≡◌, ◌≢◌, ◌≤◌, ◌<◌, ℕ, [], length, None, OnOk, OnErr, IsOkUnless};
+ghost use Rattle.std.specs.Prelude.{◌≡◌, ◌≢◌, ◌≤◌, ◌<◌, ℕ, [], length, None, Ok, Err, OnOk, OnErr, IfOk, IsOkUnless};
 ghost use Rattle.pg_io.specs.Counts.{raised, RoseBy};
 ghost use Rattle.pg_io.specs.Told.{IsTold, IsTooLong};
 
 use crate::outside::{Room, RoomFault, Sink, SinkFault};
 use std::fs;
-use std::io::Read;
+use std::io::{self, Read};
 use std::marker::Model;
 use std::rt::Files;
 
@@ -67,7 +67,8 @@ impl<R: Files> Room for FileRoom<'_, R> {
         ensures failed { result ≡ Err RoomFault.Failed → self.new.faults ≡ raised 1 self.old.faults }
         ensures others { result ≢ Err RoomFault.Failed → self.new.faults ≡ self.old.faults }
     {
-        let answer = read_file(self.files, name, limit, into, &mut self.taken);
+        let opened = fs::open(self.files, name);
+        let answer = read_opened(opened, limit, into, &mut self.taken);
         if answer == Err(RoomFault::Failed) {
             self.faults = self.faults.saturating_add(1);
         }
@@ -114,41 +115,53 @@ impl<R: Print> Sink for StdSink<'_, R> {
         ensures failed { OnErr result (self.new ≡ raised 1 self.old) }
         ensures real { IsOkUnless result SinkFault.Failed }
     {
-        match self.output.write_all(piece) {
-            Ok(()) => Ok(()),
-            Err(_) => {
-                self.faults = self.faults.saturating_add(1);
-                Err(SinkFault::Failed)
-            }
+        put_answer(self.output.write_all(piece), &mut self.faults)
+    }
+}
+
+// What a put answers where the output answered this, and the count of faults after it.
+fn put_answer(written: io::Result<()>, faults: &mut u64) -> Result<(), SinkFault>
+    ensures ok { OnOk written ((result ≡ Ok tt) × (faults.new ≡ faults.old)) }
+    ensures err { OnErr written ((result ≡ Err SinkFault.Failed) × (faults.new ≡ raised 1 faults.old)) }
+    ensures stays { faults.old ≤ faults.new }
+{
+    match written {
+        Ok(()) => Ok(()),
+        Err(_) => {
+            *faults = faults.saturating_add(1);
+            Err(SinkFault::Failed)
         }
     }
 }
 
-// Opens and reads a file. One that cannot be opened fails as one that cannot be read does.
-fn read_file<R: Files>(
-    files: &R,
-    name: &str,
+// Reads the file that was opened. One that could not be opened fails as one that cannot be read does.
+fn read_opened<F: Read + Drop>(
+    opened: io::Result<F>,
     limit: u64,
     into: &mut Vec<u8>,
     taken: &mut u64,
 ) -> Result<(), RoomFault>
     requires { into.old.items ≡ [] }
+    ensures refused { OnErr opened (result ≡ Err RoomFault.Failed) }
     ensures within { OnOk result (length into.new.items ≤ limit) }
+    ensures bytes { IfOk opened (λ file. OnOk result (IsTold (F.remaining file) into.new.items)) }
     ensures empty { OnErr result (into.new.items ≡ []) }
     ensures taken_stays { taken.old ≤ taken.new }
     ensures counted { OnOk result (RoseBy (length into.new.items) taken.old taken.new) }
     ensures too_long { (n : ℕ) → result ≡ Err (RoomFault.TooLong n) →
         (limit < n) × RoseBy n taken.old taken.new }
 {
-    match fs::open(files, name) {
-        Ok(mut file) => fill(&mut file, limit, into, taken),
+    match opened {
+        Ok(mut file) => read_within(&mut file, limit, into, taken),
         Err(_) => Err(RoomFault::Failed),
     }
 }
 
-// Reads the file to its end into the empty vector, or until it is longer than the limit. Each turn
-// of the loop takes a byte at least, so it ends.
-fn fill<F: Read>(
+/// Reads a file, or any reader, to its end into the empty vector, or until it is longer than the
+/// limit. The bytes that are read are counted in `taken`. After a refusal the vector is empty again.
+/// This project's own.
+// Each turn of the loop takes a byte at least, so it ends.
+pub fn read_within<F: Read>(
     file: &mut F,
     limit: u64,
     into: &mut Vec<u8>,
@@ -183,117 +196,5 @@ fn fill<F: Read>(
             into.clear();
             return Err(RoomFault::NoMemory);
         }
-    }
-}
-
-#[cfg(test)]
-mod tests {
-    use super::*;
-    use std::cell::RefCell;
-    use std::fmt::Display;
-    use std::io::ErrorKind;
-    use std::test::Fail;
-    use std::{env, io, process};
-
-    // A reader that gives three bytes and then fails.
-    #[derive(Drop)]
-    struct Torn {
-        is_read: bool,
-    }
-
-    impl Read for Torn {
-        fn read(&mut self, buf: &mut [u8]) -> io::Result<usize> {
-            if self.is_read || buf.len() < 3 {
-                return Err(io::Error::from(ErrorKind::Other));
-            }
-            self.is_read = true;
-            buf[0] = 1;
-            Ok(3)
-        }
-    }
-
-    #[test]
-    fn a_file_that_fails_half_way_is_refused(rt: HostRuntime) -> Result<(), Fail> {
-        let mut into = Vec::new(rt.alloc());
-        let mut taken = 0;
-        let answer = fill(&mut Torn { is_read: false }, 9, &mut into, &mut taken);
-        assert_eq!(rt; answer, Err(RoomFault::Failed));
-        assert_eq!(rt; into.as_slice(), b"".as_slice());
-        assert_eq!(rt; taken, 3);
-        Ok(())
-    }
-
-    #[test]
-    fn real_files_are_fetched(rt: HostRuntime) -> Result<(), Fail> {
-        let number = process::id(rt.process());
-        let folder = format!(in rt.alloc(); "pg_io_{number}")?;
-        let folder = env::temp_dir(&rt)?.join(rt.alloc(), folder.as_str())?;
-        let file = folder.join(rt.alloc(), "file")?;
-        let missing = folder.join(rt.alloc(), "missing")?;
-        // longer than one read
-        let bytes = vec![in rt.alloc(); 7u8; 5000]?;
-        // what a killed run may have left
-        let _ = fs::remove_dir_all(&rt, folder.as_path());
-        fs::create_dir(&rt, folder.as_path())?;
-        fs::write(&rt, file.as_path(), bytes.as_slice())?;
-        let mut room = FileRoom::make(&rt);
-        for (path, limit, answer, length) in [
-            (file.as_str(), 5000, Ok(()), 5000),
-            (file.as_str(), u64::MAX, Ok(()), 5000),
-            (file.as_str(), 4999, Err(RoomFault::TooLong(5000)), 0),
-            (missing.as_str(), 5000, Err(RoomFault::Failed), 0),
-            (folder.as_str(), 5000, Err(RoomFault::Failed), 0),
-        ] {
-            let mut into = Vec::new(rt.alloc());
-            let answered = room.fetch(path, limit, &mut into);
-            assert_eq!(rt; answered, answer, "{path} within {limit}");
-            assert!(rt; length <= bytes.len());
-            assert_eq!(rt; into.as_slice(), &bytes[..length], "{path} within {limit}");
-        }
-        fs::remove_dir_all(&rt, folder.as_path())?;
-        Ok(())
-    }
-
-    // An output that takes texts of up to four bytes and refuses longer ones.
-    struct Narrow {
-        text: RefCell<Vec<u8>>,
-    }
-
-    impl Print for Narrow {
-        fn print<D: Display + Drop>(&self, _value: D) -> io::Result<()> {
-            Err(io::Error::from(ErrorKind::Unsupported))
-        }
-
-        fn println<D: Display + Drop>(&self, _value: D) -> io::Result<()> {
-            Err(io::Error::from(ErrorKind::Unsupported))
-        }
-
-        fn write_all(&self, bytes: &[u8]) -> io::Result<()> {
-            if bytes.len() > 4 {
-                return Err(io::Error::from(ErrorKind::BrokenPipe));
-            }
-            match self.text.try_borrow_mut() {
-                Ok(mut text) => Ok(text.extend_from_slice(bytes)?),
-                Err(_) => Err(io::Error::from(ErrorKind::Other)),
-            }
-        }
-    }
-
-    #[test]
-    fn output_is_put(rt: HostRuntime) -> Result<(), Fail> {
-        let output = Narrow {
-            text: RefCell::new(Vec::new(rt.alloc())),
-        };
-        let mut sink = StdSink::make(&output);
-        assert_eq!(rt; sink.put(b"ab\n"), Ok(()));
-        assert_eq!(rt; sink.put(b"too long\n"), Err(SinkFault::Failed));
-        assert_eq!(rt; sink.put(b"cd\n"), Ok(()));
-        let Narrow { text } = output;
-        assert_eq!(rt; text.into_inner().as_slice(), b"ab\ncd\n".as_slice());
-        assert_eq!(rt;
-            StdSink::make(&rt).put(b"a line of standard output\n"),
-            Ok(())
-        );
-        Ok(())
     }
 }

@@ -19,6 +19,3 @@ pub mod token;
 pub use fault::{TextFault, TextKind};
 pub use lexer::Lexer;
 pub use token::{Sign, Token, TokenKind};
-
-#[cfg(test)]
-mod tests;

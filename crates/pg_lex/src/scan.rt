@@ -11,7 +11,7 @@ use crate::token::{Sign, TokenKind};
 const LONGEST_WORD: usize = 32;
 
 /// A token without its place: what it is, and how many bytes it has.
-#[derive(Clone, Copy, Debug)]
+#[derive(Clone, Copy)]
 pub struct Piece {
     pub kind: TokenKind,
     pub len: usize,
@@ -26,13 +26,13 @@ fn is_blank(byte: u8) -> bool
 fn is_lower(byte: u8) -> bool
     ensures { result ≡ spec.is_lower byte }
 {
-    byte.is_ascii_lowercase()
+    matches!(byte, b'a'..=b'z')
 }
 
 fn is_digit(byte: u8) -> bool
     ensures { result ≡ spec.is_digit byte }
 {
-    byte.is_ascii_digit()
+    matches!(byte, b'0'..=b'9')
 }
 
 fn is_word(byte: u8) -> bool

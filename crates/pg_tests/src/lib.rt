@@ -23,8 +23,12 @@ mod paths;
 #[cfg(test)]
 mod programs;
 #[cfg(test)]
+mod rooms;
+#[cfg(test)]
 mod spellings;
 #[cfg(test)]
 mod steps;
 #[cfg(test)]
 mod texts;
+#[cfg(test)]
+mod tokens;

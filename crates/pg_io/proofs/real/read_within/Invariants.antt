@@ -2,7 +2,7 @@
 use Rattle.std.proofs.Common.{◌≤◌, ◌-◌, length}
 use Rattle.std.specs.Io.KnownBytes.{Consumes}
 use Rattle.pg_io.specs.Counts.{RoseBy}
-use Rattle.pg_io.proofs.real.fill.Given as goal
+use Rattle.pg_io.proofs.real.read_within.Given as goal
 
 abbrev pub invariant-loop-count : goal.invariant-loop-count
 invariant-loop-count g l = record {

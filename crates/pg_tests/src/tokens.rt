@@ -1,8 +1,10 @@
-use crate::{Lexer, Sign, TextFault, TextKind, Token, TokenKind};
-use std::alloc::AllocError;
+//! Texts and their tokens.
 
-/// A text, its tokens with their places and bytes, and what stands behind them: `End` at the
-/// place, or the fault there.
+use crate::texts::{agree, lexer_of};
+use pg_lex::{Lexer, Sign, TextFault, TextKind, Token, TokenKind};
+use std::test::Fail;
+
+/// A text, its tokens with their places and bytes, and what comes after them: `End` at the place, or the fault there.
 struct Row {
     text: &'static [u8],
     tokens: &'static [(TokenKind, u32, &'static [u8])],
@@ -215,40 +217,40 @@ static ROWS: [Row; 24] = [
     },
 ];
 
-#[test]
-fn texts_have_their_tokens(rt: HostRuntime) {
-    for row in &ROWS {
-        let text = row.text;
-        assert!(rt; text.len() < 4294967296);
-        let mut lexer = Lexer::make(text);
-        for (kind, place, bytes) in row.tokens {
-            let token = Token {
-                kind: *kind,
-                place: *place,
-                text: *bytes,
-            };
-            assert_eq!(rt; lexer.peek(), Ok(token), "in {text:?}");
-            assert_eq!(rt; lexer.next(), Ok(token), "in {text:?}");
-        }
-        let stop = match row.fault {
-            None => Ok(Token {
-                kind: TokenKind::End,
-                place: row.stop,
-                text: b"",
-            }),
-            Some(kind) => Err(TextFault::At {
-                place: row.stop,
-                kind,
-            }),
+/// Passes where a text is read as its tokens, and then what comes after them, again and again.
+fn is_read(row: &'static Row) -> Result<(), Fail> {
+    are_read(&mut lexer_of(row.text)?, row)
+}
+
+fn are_read(lexer: &mut Lexer<'_>, row: &'static Row) -> Result<(), Fail> {
+    for (kind, place, text) in row.tokens {
+        let token = Token {
+            kind: *kind,
+            place: *place,
+            text: *text,
         };
-        assert_eq!(rt; lexer.fork().next(), stop, "in {text:?}");
-        assert_eq!(rt; lexer.peek(), stop, "in {text:?}");
-        assert_eq!(rt; lexer.next(), stop, "in {text:?}");
-        assert_eq!(rt; lexer.next(), stop, "in {text:?}");
+        agree(lexer.next(), Ok(token), row.text)?;
     }
+    let place = row.stop;
+    let stop = match row.fault {
+        None => Ok(Token {
+            kind: TokenKind::End,
+            place,
+            text: b"",
+        }),
+        Some(kind) => Err(TextFault::At { place, kind }),
+    };
+    agree(
+        [lexer.peek(), lexer.next(), lexer.next()],
+        [stop; 3],
+        row.text,
+    )
 }
 
 #[test]
-fn want_of_memory_is_a_fault(rt: HostRuntime) {
-    assert_eq!(rt; TextFault::from(AllocError), TextFault::NoMemory);
+fn texts_have_their_tokens() -> Result<(), Fail> {
+    for row in &ROWS {
+        is_read(row)?;
+    }
+    Ok(())
 }
