@@ -55,7 +55,7 @@ fn rejected_line(alloc: Global, i: u32) -> Result<Vec<u8>, AllocError>
     Ok(line)
 }
 
-// Writes what an obligation is about behind the line.
+// Writes what an obligation is about after the line.
 fn append_kind(line: &mut Vec<u8>, kind: PathKind) -> Result<(), AllocError>
     ensures { OnOk result (line.new.items ≡ line.old.items ++ kind_text kind) }
 {
@@ -68,7 +68,7 @@ fn append_kind(line: &mut Vec<u8>, kind: PathKind) -> Result<(), AllocError>
     }
 }
 
-// Writes a label and the number of a point behind the line.
+// Writes a label and the number of a point after the line.
 fn append_point(line: &mut Vec<u8>, label: &[u8], point: u8) -> Result<(), AllocError>
     ensures { OnOk result (line.new.items ≡ line.old.items ++ (label.now ++ decimal point)) }
 {
@@ -76,7 +76,7 @@ fn append_point(line: &mut Vec<u8>, label: &[u8], point: u8) -> Result<(), Alloc
     append_number(line, u32::from(point))
 }
 
-// Writes a number behind the line.
+// Writes a number after the line.
 fn append_number(line: &mut Vec<u8>, number: u32) -> Result<(), AllocError>
     ensures { OnOk result (line.new.items ≡ line.old.items ++ decimal number) }
 {

@@ -1,7 +1,7 @@
 -- What a put does to the bytes that a sink tells it has written, `None` where it tells nothing.
 use Rattle.std.specs.Prelude.{◌≡◌, ℕ, List, ◌++◌, take, Option, option_map}
 
--- what was written, with the piece behind it
+-- what was written, with the piece after it
 abbrev pub appended : Option (List ℕ) → List ℕ → Option (List ℕ)
 appended written piece = option_map (λ bytes. bytes ++ piece) written
 

@@ -131,7 +131,7 @@ impl Sink for QuietSink {
     }
 }
 
-// Writes the piece behind the bytes, or leaves them as they are.
+// Writes the piece after the bytes, or leaves them as they are.
 fn append(bytes: &mut Vec<u8>, piece: &[u8]) -> Result<(), SinkFault>
     ensures ok { OnOk result (bytes.new.items ≡ bytes.old.items ++ piece.now) }
     ensures err { OnErr result (bytes.new.items ≡ bytes.old.items) }

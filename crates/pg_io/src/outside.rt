@@ -83,7 +83,7 @@ pub trait Sink {
     // how many faults there were
     ghost faults: { Self → ℕ };
 
-    /// Writes the piece behind what was written. Whether the sink tells its bytes stays as it was.
+    /// Writes the piece after what was written. Whether the sink tells its bytes stays as it was.
     /// `Failed` comes only where the count of faults rose, and then a prefix of the piece was
     /// written. No clause says when `NoMemory` comes; nothing was written then.
     fn put(&mut self, piece: &[u8]) -> Result<(), SinkFault>

@@ -25,6 +25,7 @@ use Rattle.pg_outline.specs.Fault.{Fault, first_of, first_in, in_formula, atom_f
 use Rattle.pg_outline.specs.Made.{IsOutline}
 use Rattle.pg_judge.specs.declared.outline.PathLit.{PathLit}
 use Rattle.pg_judge.specs.declared.outline.PathOutline.{PathOutline}
+use Rattle.pg_judge.specs.Limits.{most_literals}
 use Rattle.pg_judge.specs.Path.{IsPath}
 use Rattle.pg_judge.specs.Form.{literal_of, joined, formula_of, IsConjunctionOf, IsConjunction, IsOfForm}
 use Rattle.pg_judge.specs.Reading.{IsStraight, IsPathOf}
@@ -151,7 +152,7 @@ pub record ArePartsOf (o : OutlineTable) (given : List PathLit) (assertions : Li
   pub crash : o.crash ≡ top
   pub pre : IsConjunctionOf o.pre given
   pub notes : map formula_of assertions ≡ get_or o.notes 0 []
-  pub few : All (λ ls. length ls ≤ 128) assertions
+  pub few : All (λ ls. length ls ≤ most_literals) assertions
 
 module _ (o : OutlineTable) (pre : List PathLit) (notes : List (List PathLit)) (of : ArePartsOf o pre notes) where
   one : length o.program.threads ≡ 1
@@ -176,10 +177,10 @@ module _ (o : OutlineTable) (pre : List PathLit) (notes : List (List PathLit)) (
         (All-cons (All IsConjunction) (map formula_of notes) [] (conjunctions notes of.few) (All-nil (All IsConjunction)));
   }
     where
-      conjunctions : (ns : List (List PathLit)) → All (λ ls. length ls ≤ 128) ns → All IsConjunction (map formula_of ns)
+      conjunctions : (ns : List (List PathLit)) → All (λ ls. length ls ≤ most_literals) ns → All IsConjunction (map formula_of ns)
       conjunctions [] few = All-nil IsConjunction
       conjunctions (ls ∷ ns) few =
-          let P : List PathLit → Type 0 = λ ls. length ls ≤ 128 in
+          let P : List PathLit → Type 0 = λ ls. length ls ≤ most_literals in
           All-cons IsConjunction (formula_of ls) (map formula_of ns)
           (record { literals = ls; are = record { few = All-head P ls ns few; is = refl } }) (conjunctions ns (All-tail P ls ns few))
 

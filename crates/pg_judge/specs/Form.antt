@@ -6,6 +6,7 @@ use Rattle.pg_assertion.specs.Formula.{Plain, top, atom, neg, both}
 use Rattle.pg_program.specs.Straight.{straight}
 use Rattle.pg_outline.specs.Outline.{OutlineTable}
 use Rattle.pg_judge.specs.declared.outline.PathLit.{PathLit}
+use Rattle.pg_judge.specs.Limits.{most_literals}
 
 -- ---- conjunctions
 
@@ -23,9 +24,9 @@ abbrev pub formula_of : List PathLit → Plain ViewAtom
 formula_of [] = top
 formula_of (l ∷ ls) = joined (literal_of l) ls
 
--- the formula is the conjunction of these literals, which are at most 128
+-- the formula is the conjunction of these literals, which are not too many
 pub record IsConjunctionOf (f : Plain ViewAtom) (ls : List PathLit) : Type 0 where
-  pub few : length ls ≤ 128
+  pub few : length ls ≤ most_literals
   pub is : formula_of ls ≡ f
 
 -- a conjunction of literals

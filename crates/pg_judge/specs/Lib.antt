@@ -1,3 +1,4 @@
+pub mod Limits
 pub mod Judgement
 pub mod Obligation
 pub mod Path

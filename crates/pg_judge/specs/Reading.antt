@@ -8,6 +8,7 @@ use Rattle.pg_program.specs.Straight.{straight}
 use Rattle.pg_outline.specs.Outline.{OutlineTable}
 use Rattle.pg_judge.specs.declared.outline.PathLit.{PathLit}
 use Rattle.pg_judge.specs.declared.outline.PathOutline.{PathOutline}
+use Rattle.pg_judge.specs.Limits.{most_literals}
 use Rattle.pg_judge.specs.Path.{path, IsPath}
 use Rattle.pg_judge.specs.Form.{formula_of, IsConjunction, IsOfForm}
 use Rattle.pg_judge.specs.Meaning.{outline}
@@ -30,12 +31,12 @@ literal_in f = option_map (λ a. record { x = a.0; v = a.1; positive = true }) (
 -- the literals of a conjunction of at least one
 pub record AreLiterals (f : Plain ViewAtom) (ls : List PathLit) : Type 0 where
   pub some : 1 ≤ length ls
-  pub few : length ls ≤ 128
+  pub few : length ls ≤ most_literals
   pub are : formula_of ls ≡ f
 
 -- the literals of each of these formulas
 abbrev pub AreNotes : List (Plain ViewAtom) → Option (List (List PathLit)) → Type 0
-AreNotes fs (Some notes) = (map formula_of notes ≡ fs) × All (λ ls. length ls ≤ 128) notes
+AreNotes fs (Some notes) = (map formula_of notes ≡ fs) × All (λ ls. length ls ≤ most_literals) notes
 AreNotes fs None = All IsConjunction fs → ⊥
 
 -- a program of one thread of stores of numbers without brackets, and without scalars

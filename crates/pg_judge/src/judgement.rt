@@ -5,6 +5,7 @@ ghost use Rattle.pg_program.specs.NameTable.{initial};
 ghost use Rattle.pg_program.specs.Straight.{straight};
 ghost use Rattle.pg_judge.specs.Path.{path, IsPath, HasStores, count, Follows};
 ghost use Rattle.pg_judge.specs.Meaning.{outline};
+ghost use Rattle.pg_judge.specs.Limits.{most_obligations};
 ghost use Rattle.pg_judge.specs.Judgement.{Judges, IsProvedIfAccepted, number_of};
 
 use crate::obligation::{PathKind, parts, path_kind};
@@ -29,7 +30,7 @@ pub fn check_path(alloc: Global, o: &PathOutline<'_>) -> Result<PathJudgement, A
     requires path { IsPath (path o.now) }
     ensures judged { IfOk result (Judges (path o.now)) }
     ensures safe { IfOk result (λ j. IsProvedIfAccepted j (outline o.now)) }
-    ensures few { IfOk result (λ j. number_of j ≤ 65) }
+    ensures few { IfOk result (λ j. number_of j ≤ most_obligations) }
 {
     let mut values = initial_values(alloc, o.program.names())?;
     Ok(judge(o, &mut values))
@@ -41,7 +42,7 @@ fn judge(o: &PathOutline<'_>, values: &mut [u32]) -> PathJudgement
     requires stores { HasStores o.now }
     requires initial { values.old ≡ initial o.now.program.now.names }
     ensures judged { Judges (path o.now) result }
-    ensures few { number_of result ≤ 65 }
+    ensures few { number_of result ≤ most_obligations }
 {
     let statements = o.notes.len() as u32 - 1;
     let count = 3 + 2 * statements;

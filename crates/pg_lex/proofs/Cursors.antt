@@ -28,7 +28,7 @@ comes : (g : Cursor) (outcome : Result Piece TextKind) (l : Lexeme) → lexeme_a
 comes g (Ok p) l h = record { cut = p; outcome_is = refl; kind_is = cc; place_is = cc; text_is = cc }
 comes g (Err k) l h = absurd (cc)
 
--- a token's parts, by the piece that is cut off behind the gap
+-- a token's parts, by the piece that is cut off after the gap
 pub record IsCut (c : Cursor) (l : Lexeme) : Type 0 where
   pub cut : Piece
   pub kind_is : l.kind ≡ cut.kind
@@ -138,7 +138,7 @@ lexeme_is l k n bs kind_is place_is text_is = rw (← kind_is, ← place_is, ←
 pub cursor_is : (c : Cursor) (n : ℕ) (bs : List ℕ) → c.at ≡ n → c.rest ≡ bs → c ≡ record { at = n; rest = bs }
 cursor_is c n bs at_is rest_is = rw (← at_is, ← rest_is) refl
 
--- what is empty behind the gap leaves the gap alone
+-- what is empty after the gap leaves the gap alone
 all_gap : (rest gap text more : List ℕ) → rest ≡ gap ++ (text ++ more) → text ≡ [] → more ≡ [] → length rest ≡ length gap
 all_gap rest gap text more split no_text no_more =
     omega (arith, ap length split, length-append gap (text ++ more), length-append text more, ap length no_text, ap length no_more)

@@ -17,7 +17,7 @@ use Rattle.pg_lex.specs.Grammar.{Begins, IsRun, IsToken, IsFault, HasRun, begins
 use Rattle.pg_lex.proofs.Runs.{run_is_run, run_begins}
 use Rattle.pg_lex.proofs.Signs.{sign_in_front, sign_is_longest, no_sign_in_front}
 
--- a piece of the bytes, and what stands behind it
+-- a piece of the bytes, and what stands after it
 abbrev pub IsPiece : List ℕ → Piece → Type 0
 IsPiece bs p = IsToken p.kind (take p.len bs) (drop p.len bs) × (p.len ≤ length bs)
 

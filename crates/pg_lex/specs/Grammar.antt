@@ -1,10 +1,11 @@
 -- What stands between tokens, what a token is and what a fault is, apart from how each is found.
-use Rattle.std.specs.Prelude.{◌≡◌, ◌≢◌, ℕ, ◌^◌, ◌<◌, ◌≤◌, Bool, not, IsTrue, IsFalse, ◌&&◌, ◌||◌, ◌==◌, nat_le, nat_lt, List, [], ◌∷◌, ◌++◌, length}
+use Rattle.std.specs.Prelude.{◌≡◌, ◌≢◌, ℕ, ◌<◌, ◌≤◌, Bool, not, IsTrue, IsFalse, ◌&&◌, ◌||◌, ◌==◌, nat_le, nat_lt, List, [], ◌∷◌, ◌++◌, length}
 use Rattle.pg_lex.specs.declared.token.Sign.{Sign}
 use Rattle.pg_lex.specs.declared.token.TokenKind.{TokenKind}
 use Rattle.pg_lex.specs.declared.token.TokenKind.TheVariants as kind
 use Rattle.pg_lex.specs.declared.fault.TextKind.{TextKind}
 use Rattle.pg_lex.specs.declared.fault.TextKind.TheVariants.{NotAscii, BadCharacter, NumberTooLarge, NameTooLong, Unexpected, UnknownName, Redeclared, TooMany, TooDeep}
+use Rattle.pg_lex.specs.Limits.{longest_word, number_bound}
 use Rattle.pg_lex.specs.Piece.{is_blank, is_lower, is_digit, is_word, is_letter, value, spelling}
 
 -- ---- bytes of a class
@@ -24,7 +25,7 @@ abbrev pub Stops : (ℕ → Bool) → List ℕ → Type 0
 Stops class [] = Unit {0}
 Stops class (b ∷ bs) = IsFalse (class b)
 
--- the longest prefix of its class, where rest stands behind it
+-- the longest prefix of its class, where rest comes after it
 abbrev pub IsRun : (ℕ → Bool) → List ℕ → List ℕ → Type 0
 IsRun class text rest = AllIn class text × Stops class rest
 
@@ -45,10 +46,10 @@ begins_gap b = is_blank b || b == 35
 
 -- ---- tokens and faults
 
--- the text is that of a token of this kind, where rest stands behind it
+-- the text is that of a token of this kind, where rest comes after it
 abbrev pub IsToken : TokenKind → List ℕ → List ℕ → Type 0
-IsToken kind.Word text rest = Begins is_lower text × IsRun is_word text rest × (length text ≤ 32)
-IsToken (kind.Number n) text rest = Begins is_digit text × IsRun is_digit text rest × (n ≡ value text) × (n < 2 ^ 32)
+IsToken kind.Word text rest = Begins is_lower text × IsRun is_word text rest × (length text ≤ longest_word)
+IsToken (kind.Number n) text rest = Begins is_digit text × IsRun is_digit text rest × (n ≡ value text) × (n < number_bound)
 IsToken (kind.Letter b) text rest = (text ≡ b ∷ []) × IsTrue (is_letter b)
 IsToken (kind.Sign s) text rest =
     (text ≡ spelling s)
@@ -71,8 +72,8 @@ begins_no_name b = nat_lt b 128 && not (is_lower b) && not (is_digit b) && not (
 abbrev pub IsFault : TextKind → List ℕ → Type 0
 IsFault NotAscii bytes = Begins (nat_le 128) bytes
 IsFault BadCharacter bytes = Begins begins_no_name bytes × ((s : Sign) (more : List ℕ) → bytes ≢ spelling s ++ more)
-IsFault NumberTooLarge bytes = Begins is_digit bytes × HasRun is_digit (λ text. 2 ^ 32 ≤ value text) bytes
-IsFault NameTooLong bytes = Begins is_lower bytes × HasRun is_word (λ text. 32 < length text) bytes
+IsFault NumberTooLarge bytes = Begins is_digit bytes × HasRun is_digit (λ text. number_bound ≤ value text) bytes
+IsFault NameTooLong bytes = Begins is_lower bytes × HasRun is_word (λ text. longest_word < length text) bytes
 IsFault Unexpected bytes = ⊥
 IsFault UnknownName bytes = ⊥
 IsFault Redeclared bytes = ⊥

@@ -8,12 +8,12 @@ use Rattle.pg_lex.specs.declared.fault.TextKind.{TextKind}
 use Rattle.pg_lex.specs.Lex.{Cursor, Lexeme, token, after}
 use Rattle.pg_lex.specs.Grammar.{IsGap, IsToken, IsFault, Stops, begins_gap}
 
--- A token's text is the longest prefix of its class of what stands behind the blanks and comments.
+-- A token's text is the longest prefix of its class of what stands after the blanks and comments.
 abbrev pub MunchesMost : Type 0
 MunchesMost = (c : Cursor) (l : Lexeme) → token c ≡ Ok l → IsToken l.kind l.text (after c).rest
 
 -- The text from the cursor on is a gap of blanks and comments alone, as long as can be, and then the
--- token; the token's place, and the place behind it, count the bytes up to there.
+-- token; the token's place, and the place after it, count the bytes up to there.
 pub record SplitsText (c : Cursor) (l : Lexeme) : Type 0 where
   pub gap : List ℕ
   pub text : c.rest ≡ gap ++ (l.text ++ (after c).rest)
@@ -25,7 +25,7 @@ pub record SplitsText (c : Cursor) (l : Lexeme) : Type 0 where
 abbrev pub TokensSplitText : Type 0
 TokensSplitText = (c : Cursor) (l : Lexeme) → token c ≡ Ok l → SplitsText c l
 
--- A fault is at its place behind the blanks and comments, and no token stands there.
+-- A fault is at its place after the blanks and comments, and no token stands there.
 pub record RefusesText (c : Cursor) (place : ℕ) (cause : TextKind) : Type 0 where
   pub gap : List ℕ
   pub behind : List ℕ
@@ -56,7 +56,7 @@ EndStays =
     × (token (after c) ≡ Ok l)
     × (after (after c) ≡ after c)
 
--- What the grammar has at a cursor is read: a gap, and behind it the text of a token of the kind.
+-- What the grammar has at a cursor is read: a gap, and after it the text of a token of the kind.
 abbrev pub GrammarIsRead : Type 0
 GrammarIsRead =
     (c : Cursor) (kind : TokenKind) (gap text rest : List ℕ)

@@ -1,4 +1,4 @@
--- The token behind a place of a text, and the place behind the token.
+-- The token after a place of a text, and the place after the token.
 use Rattle.std.specs.Prelude.{ℕ, ◌+◌, false, List, drop, take, Result, Ok, Err, refl}
 use Rattle.std.specs.Coded.{Coded, code_by, coded×, coded_ℕ, coded_list}
 use Rattle.pg_lex.specs.declared.token.Token.{Token}
@@ -34,7 +34,7 @@ start text = record { at = 0; rest = text }
 abbrev pub advance : ℕ → Cursor → Cursor
 advance n c = record { at = c.at + n; rest = drop n c.rest }
 
--- the cursor behind the blanks and comments
+-- the cursor after the blanks and comments
 abbrev pub behind_gap : Cursor → Cursor
 behind_gap c = advance (gap_len false c.rest) c
 
@@ -42,10 +42,10 @@ abbrev pub lexeme_at : Cursor → Result Piece TextKind → Result Lexeme TextFa
 lexeme_at c (Ok p) = Ok (record { kind = p.kind; place = c.at; text = take p.len c.rest })
 lexeme_at c (Err k) = Err (At c.at k)
 
--- the token or the fault behind the blanks and comments, at its place
+-- the token or the fault after the blanks and comments, at its place
 unfoldable pub token : Cursor → Result Lexeme TextFault
 token c = lexeme_at (behind_gap c) (piece (behind_gap c).rest)
 
--- the cursor behind that token
+-- the cursor after that token
 unfoldable pub after : Cursor → Cursor
 after c = advance (piece_len (piece (behind_gap c).rest)) (behind_gap c)

@@ -1,3 +1,4 @@
+pub mod Limits
 pub mod Piece
 pub mod Lex
 pub mod Grammar

@@ -1,5 +1,5 @@
 -- The token in front of a list of bytes, by the first of them. Bytes are numbers.
-use Rattle.std.specs.Prelude.{ℕ, ◌+◌, ◌-◌, ◌*◌, ◌^◌, Bool, true, false, not, ◌&&◌, ◌||◌, if◌then◌else◌, ◌==◌, nat_le, nat_lt, List, [], ◌∷◌, length, slice_index, codes, nat_eq, take_while, find, Option, Some, None, Result, Ok, Err}
+use Rattle.std.specs.Prelude.{ℕ, ◌+◌, ◌-◌, ◌*◌, Bool, true, false, not, ◌&&◌, ◌||◌, if◌then◌else◌, ◌==◌, nat_le, nat_lt, List, [], ◌∷◌, length, slice_index, codes, nat_eq, take_while, find, Option, Some, None, Result, Ok, Err}
 use Rattle.std.specs.List.{prefix_len, starts_with}
 use Rattle.pg_lex.specs.declared.token.Sign.{Sign}
 use Rattle.pg_lex.specs.declared.token.Sign.TheVariants.{Assign, Arrow, NotEqual, Equal, Not, And, Or, Plus, Minus, Times, Open, Close, OpenSquare, CloseSquare, OpenBrace, CloseBrace, Less, Greater, Semicolon, Comma}
@@ -7,6 +7,7 @@ use Rattle.pg_lex.specs.declared.token.TokenKind.TheVariants as kind
 use Rattle.pg_lex.specs.declared.fault.TextKind.{TextKind}
 use Rattle.pg_lex.specs.declared.fault.TextKind.TheVariants.{NotAscii, BadCharacter, NumberTooLarge, NameTooLong}
 use Rattle.pg_lex.specs.declared.scan.Piece.{Piece}
+use Rattle.pg_lex.specs.Limits.{longest_word, number_bound}
 
 -- ---- classes of bytes
 
@@ -22,7 +23,7 @@ is_lower b = nat_le 97 b && nat_le b 122
 abbrev pub is_digit : ℕ → Bool
 is_digit b = nat_le 48 b && nat_le b 57
 
--- what may stand in a word behind its first byte
+-- what may stand in a word after its first byte
 abbrev pub is_word : ℕ → Bool
 is_word b = is_lower b || is_digit b || b == 95
 
@@ -43,9 +44,9 @@ gap_len false (b ∷ bs) = if is_blank b then 1 + gap_len false bs else (if b ==
 
 -- a word of n bytes
 abbrev pub word : ℕ → Result Piece TextKind
-word n = if nat_le n 32 then Ok (record { kind = kind.Word; len = n }) else Err NameTooLong
+word n = if nat_le n longest_word then Ok (record { kind = kind.Word; len = n }) else Err NameTooLong
 
--- the number that digits spell, behind digits that spell n
+-- the number that digits spell after digits that spell n
 abbrev pub value_from : ℕ → List ℕ → ℕ
 value_from n [] = n
 value_from n (d ∷ ds) = value_from (10 * n + (d - 48)) ds
@@ -54,7 +55,7 @@ abbrev pub value : List ℕ → ℕ
 value ds = value_from 0 ds
 
 abbrev pub number : List ℕ → Result Piece TextKind
-number ds = if nat_lt (value ds) (2 ^ 32) then Ok (record { kind = kind.Number (value ds); len = length ds }) else Err NumberTooLarge
+number ds = if nat_lt (value ds) number_bound then Ok (record { kind = kind.Number (value ds); len = length ds }) else Err NumberTooLarge
 
 -- the signs, in the order of the grammar: a longer one before those that it begins with
 abbrev pub signs : List Sign

@@ -3,19 +3,19 @@
 
 ghost use Rattle.pg_lex.specs.Laws.{MunchesMost, TokensSplitText, FaultsAreExact, TokensShortenRest, EndStays, GrammarIsRead};
 
-/// A token's text is the longest prefix of its class of what stands behind the blanks and
+/// A token's text is the longest prefix of its class of what stands after the blanks and
 /// comments: a word, the digits of its value, one letter, or the longest sign. `End` has none.
 pub fn tokens_are_longest()
     ensures { MunchesMost }
 {}
 
 /// In front of a token there are blanks and comments alone, and no byte of the text is lost: it is
-/// that gap, the token's text and what stands behind the lexer then. Places count its bytes.
+/// that gap, the token's text and what stands after the lexer then. Places count its bytes.
 pub fn tokens_split_the_text()
     ensures { TokensSplitText }
 {}
 
-/// A fault stands behind blanks and comments alone, where no token begins or one exceeds a limit.
+/// A fault stands after blanks and comments alone, where no token begins or one exceeds a limit.
 pub fn faults_are_exact()
     ensures { FaultsAreExact }
 {}

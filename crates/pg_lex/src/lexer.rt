@@ -48,7 +48,7 @@ impl<'a> Lexer<'a> {
         }
     }
 
-    /// The lexer behind the blanks and comments.
+    /// The lexer after the blanks and comments.
     fn behind_gap(&self) -> Lexer<'a>
         ensures { result ≡ spec.behind_gap self.now }
     {
@@ -79,7 +79,7 @@ impl<'a> Lexer<'a> {
         }
     }
 
-    /// The next token, or the fault that the text has there. The lexer stands behind the token
+    /// The next token, or the fault that the text has there. The lexer stands after the token
     /// then, and after a refusal where it stood.
     #[tactic(auto, unfolding(crate::specs::Lex::token, crate::specs::Lex::after))]
     pub fn next(&mut self) -> Result<Token<'a>, TextFault>

@@ -125,7 +125,7 @@ fn number(bytes: &[u8]) -> Result<Piece, TextKind>
     }
 }
 
-/// The longest sign that begins with the first byte, where the second stands behind it.
+/// The longest sign that begins with the first byte, where the second stands after it.
 #[tactic(auto, unfolding(crate::specs::Piece::sign_of))]
 fn sign_of(first: u8, second: u8) -> Option<Sign>
     ensures value { result ≡ spec.sign_of first second }
@@ -166,7 +166,7 @@ fn sign_len(sign: Sign) -> usize
     }
 }
 
-/// The byte behind the first, or 0 at the end.
+/// The byte after the first, or 0 at the end.
 fn second(bytes: &[u8]) -> u8
     ensures value { result ≡ slice_index bytes.now 1 }
     ensures within { result ≢ 0 → 1 < length bytes.now }

@@ -27,7 +27,7 @@ pub enum Sign {
 
 #[derive(Clone, Copy, Debug, PartialEq, Eq)]
 pub enum TokenKind {
-    /// A lower-case letter, and lower-case letters, digits and `_` behind it.
+    /// A lower-case letter, and lower-case letters, digits and `_` after it.
     Word,
     /// The value of a string of digits.
     Number(u32),

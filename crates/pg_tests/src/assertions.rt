@@ -119,7 +119,7 @@ static FAULTS: [Fault; 22] = [
         place: 14,
         kind: TextKind::Unexpected,
     },
-    // The lexer refuses a token, also one behind a whole formula.
+    // The lexer refuses a token, also one after a whole formula.
     Fault {
         text: b"true & B(x,0)",
         place: 7,
@@ -218,7 +218,7 @@ static LIMITS: [Limit; 12] = [
     },
 ];
 
-/// Texts with a formula in front, and the token behind it.
+/// Texts with a formula in front, and the token after it.
 static LEFT: [(&[u8], TokenKind); 6] = [
     (b"a = 1;", TokenKind::Sign(Sign::Semicolon)),
     (b"true true", TokenKind::Word),
@@ -315,7 +315,7 @@ fn limits_are_kept(rt: HostRuntime) -> Result<(), Fail> {
     })
 }
 
-/// The token behind the assertion at the start of a text.
+/// The token after the assertion at the start of a text.
 fn left(alloc: Global, names: &Names, text: &[u8]) -> Result<TokenKind, Fail> {
     let mut lexer = lexer_of(text)?;
     let _f = parse_formula(alloc, &mut lexer, names)?;

@@ -56,7 +56,7 @@ C(1,x,1,x,1) C(1,x,1,y,1) C(1,y,1,x,1) C(1,y,1,y,1) \
 C(2,x,1,x,1) C(2,x,1,y,1) C(2,y,1,x,1) C(2,y,1,y,1) \
 N(1,x) N(1,y) N(2,x) N(2,y) O(1,x) O(1,y) O(2,x) O(2,y) F(1,x) F(1,y) F(2,x) F(2,y)";
 
-/// Steps, and the atoms that hold behind them.
+/// Steps, and the atoms that hold after them.
 static STATES: [(&[Line], &str); 3] = [(&[], FRESH), (&SENDS, SENT), (&PASSES, RECEIVED)];
 
 /// The layout of the atoms over a program of two threads and two values.
@@ -69,7 +69,7 @@ pub fn layout_of(p: &Program) -> Result<Layout, Fail>
     Ok(Layout::of(p.names(), p.threads()))
 }
 
-/// The atoms over the program that hold, each behind a blank.
+/// The atoms over the program that hold, each after a blank.
 #[tactic(auto, using(crate::proofs::Atoms::names_of))]
 fn held(alloc: Global, s: &State, p: &Program) -> Result<Vec<u8>, Fail>
     requires { IsWellFormed p.now s.now.state }
@@ -86,7 +86,7 @@ fn held(alloc: Global, s: &State, p: &Program) -> Result<Vec<u8>, Fail>
     Ok(text)
 }
 
-/// Passes where behind these steps just these atoms hold.
+/// Passes where after these steps just these atoms hold.
 fn hold_behind(alloc: Global, p: &Program, lines: &[Line], atoms: &str) -> Result<(), Fail> {
     let state = behind(alloc, p, lines)?;
     let found = held(alloc, &state, p)?;
@@ -136,7 +136,7 @@ static REFUSED: [(&[u32], CrashFault); 5] = [
 /// The store and the flush of the sender.
 const FLUSHES: [Line; 2] = [(1, None, None), (1, None, None)];
 
-/// What a crash at these positions leaves behind these steps, or its fault.
+/// What a crash at these positions leaves after these steps, or its fault.
 fn crashed(
     alloc: Global,
     p: &Program,
@@ -170,7 +170,7 @@ const UNFLUSHED: &[u8] =
 
 const STORES: [Line; 2] = [(1, None, None), (1, None, None)];
 
-/// Positions of x and y, the values that a crash leaves at them behind both stores, and whether x is written if y is.
+/// Positions of x and y, the values that a crash leaves at them after both stores, and whether x is written if y is.
 static LEFT: [(&[u32], (u8, u8, bool)); 4] = [
     (&[0, 0], (0, 0, true)),
     (&[1, 0], (1, 0, true)),
@@ -187,7 +187,7 @@ fn y_after_x(alloc: Global) -> Result<Formula<CrashAtom>, Fail>
     Ok(Formula::implies(alloc, y, x)?)
 }
 
-/// The values of x and y that a crash leaves behind both stores, and whether x is written if y is.
+/// The values of x and y that a crash leaves after both stores, and whether x is written if y is.
 fn left(alloc: Global, p: &Program, at: &[u32]) -> Result<(u8, u8, bool), Fail> {
     if p.names().locations() != 2 {
         return Err(Fail::new("there are other locations"));

@@ -256,11 +256,11 @@ static BEHIND_TOKENS: [Refused; 16] = [
     },
 ];
 
-/// The declarations that the programs with faults stand behind.
+/// The declarations that the programs with faults stand after.
 const DECLARED: &[u8] =
     b"pierogi 1; values 2; location x = 0; register p of 1; register q of 1; register r of 1; register s of 1; register t of 1; register u of 2; auxiliary e; auxiliary f; ";
 
-/// Threads behind these declarations, with the fault of the program, if it has one.
+/// Threads after these declarations, with the fault of the program, if it has one.
 static PROGRAMS: [Refused; 22] = [
     Refused {
         text: b"thread 1 { [true] u := 1; [true] } thread 2 { [true] }",

@@ -76,7 +76,7 @@ const ALONE: [Line; 6] = [
     (2, None, Some(StepFault::Ended)),
 ];
 
-/// The state behind these lines, each of which has the fault that is wanted.
+/// The state after these lines, each of which has the fault that is wanted.
 pub fn behind(alloc: Global, p: &Program, lines: &[Line]) -> Result<State, Fail>
     ensures { IfOk result (λ s. IsWellFormed p.now s.state) }
 {
