@@ -32,7 +32,7 @@ use Rattle.pg_program_text.specs.declared.keyword.Keyword.TheVariants as k
 use Rattle.pg_program_text.specs.Keywords.{spelling, keyword, keyword_by, keyword_of}
 use Rattle.pg_program_text.specs.Expr as expr
 use Rattle.pg_program_text.specs.Expr.{Rule, Is, sum, factor_of, a_number, a_scalar, a_bracket, a_term, a_product, an_expr, a_sum, a_difference}
-use Rattle.pg_program_text.specs.Stmt.{with_room, expression, behind, formula, opens_note, opened, note, equal_at, told, a_test, swap, load_or_assign, assigned_by, assigned, to_name, act_by, an_act, auxiliary_in, one_more, assignment, goes_on_or_ends, separator, assignments_on, bracket_by, bracket}
+use Rattle.pg_program_text.specs.Stmt.{with_room, expression, behind, formula, opens_note, opened, note, equal_at, told, test_sign, a_test, operand, last_operand, swap, load_or_assign, assigned_by, assigned, to_name, act_by, an_act, auxiliary_in, one_more, assignment, goes_on_or_ends, separator, assignments_on, bracket_by, bracket}
 use Rattle.pg_program_text.specs.Grammar.{IsExpr, IsNote, IsTest, IsAct, an_assign, a_store, a_load, a_cas, an_mfence, an_sfence, a_flush, a_flushopt, IsAssignment, AreAssignments, the_last, one_more as another, IsBracket, no_bracket, a_bracket as brackets, equality}
 use Rattle.pg_program_text.proofs.ExprComplete.{at, EndsExpr, ends_before, expr_reads}
 use Rattle.pg_program_text.proofs.PartsSound.{keyword_found}
@@ -75,12 +75,13 @@ equality_ends names true from to st = ends_before names s.Equal from to st refl 
 equality_ends names false from to st = ends_before names s.NotEqual from to st refl refl refl
 
 pub test_reads : (names : NameTable) (i : Input) (c : Cond) (to : Cursor) → IsTest names i.cursor c to → EndsExpr to → a_test names i ≡ Ok (c, to_ i to)
-unfolding a_test
+unfolding a_test test_sign
 test_reads names i c to is ends =
     let st = is.equality_is in
     bind_value (expression names i) _ c.left (to_ i is.mid) (expression_reads names i c.left is.mid is.left (equality_ends names c.equal is.mid is.behind st))
-    ∙ bind_value (next (to_ i is.mid)) _ st.lexeme (to_ i is.behind) (stands_token names (sign (equality c.equal)) (to_ i is.mid) is.behind st)
-    ∙ ap (λ r. and_then (told r (to_ i is.behind)) (λ equal l. and_then (expression names l) (λ b. pure (record { left = c.left; right = b; equal = equal })))) (equal_reads st.lexeme c.equal st.matches)
+    ∙ bind_value (test_sign (to_ i is.mid)) _ c.equal (to_ i is.behind)
+    (bind_value (next (to_ i is.mid)) (λ t. told (equal_at t)) st.lexeme (to_ i is.behind) (stands_token names (sign (equality c.equal)) (to_ i is.mid) is.behind st)
+    ∙ ap (λ r. told r (to_ i is.behind)) (equal_reads st.lexeme c.equal st.matches))
     ∙ ap (λ o. and_then o (λ b. pure (record { left = c.left; right = b; equal = c.equal }))) (expression_reads names (to_ i is.behind) c.right to is.right ends)
 
 -- ---- keywords
@@ -196,10 +197,15 @@ load_reads names i r x to st =
     ∙ ap (λ q. load_or_assign names r q i) (named_reads names st.lexeme (place.Location x) st.matches.0 st.matches.1 st.matches.2)
     ∙ ap (λ o. and_then o (λ u. pure (act.Load r x))) (stands_token names (location x) i to st)
 
+operand_reads : (names : NameTable) (i : Input) (a : Expr) (mid to : Cursor) → Stands names (sign s.Comma) i.cursor mid → IsExpr names mid a to → EndsExpr to → operand names i ≡ Ok (a, to_ i to)
+unfolding operand
+operand_reads names i a mid to comma is ends =
+    ap (λ o. and_then o (λ u. expression names)) (expect_reads names s.Comma i mid comma) ∙ expression_reads names (to_ i mid) a to is ends
+
 swap_reads : (names : NameTable) (i : Input) (r x : ℕ) (a b : Expr) (c1 c2 c3 c4 c5 c6 to : Cursor) → Stands names (word (spelling k.Cas)) i.cursor c1 → Stands names (sign s.Open) c1 c2
     → Stands names (location x) c2 c3 → Stands names (sign s.Comma) c3 c4 → IsExpr names c4 a c5 → Stands names (sign s.Comma) c5 c6 → (last : Cursor) → IsExpr names c6 b last → Stands names (sign s.Close) last to
     → assigned names r i ≡ Ok (act.Cas r x a b, to_ i to)
-unfolding assigned swap
+unfolding assigned swap last_operand
 swap_reads names i r x a b c1 c2 c3 c4 c5 c6 to st open_b loc comma e1 comma2 last e2 close =
     let t = st.lexeme in
     bind_value (peek i) (λ t. assigned_by names r t (keyword t)) t i (peek_reads i t st.read)
@@ -207,13 +213,10 @@ swap_reads names i r x a b c1 c2 c3 c4 c5 c6 to st open_b loc comma e1 comma2 la
     ∙ ap (λ o. and_then o (λ u. swap names r)) (stands_token names (word (spelling k.Cas)) i c1 st)
     ∙ bind_value (and_then (expect s.Open (to_ i c1)) (λ u. input.location names)) _ x (to_ i c3)
     (ap (λ o. and_then o (λ u. input.location names)) (expect_reads names s.Open (to_ i c1) c2 open_b) ∙ location_reads names x (to_ i c2) c3 loc)
-    ∙ bind_value (and_then (expect s.Comma (to_ i c3)) (λ u. expression names)) _ a (to_ i c5)
-    (ap (λ o. and_then o (λ u. expression names)) (expect_reads names s.Comma (to_ i c3) c4 comma)
-    ∙ expression_reads names (to_ i c4) a c5 e1 (ends_before names s.Comma c5 c6 comma2 refl refl refl))
-    ∙ bind_value (and_then (expect s.Comma (to_ i c5)) (λ u. expression names)) _ b (to_ i last)
-    (ap (λ o. and_then o (λ u. expression names)) (expect_reads names s.Comma (to_ i c5) c6 comma2)
-    ∙ expression_reads names (to_ i c6) b last e2 (ends_before names s.Close last to close refl refl refl))
-    ∙ ap (λ o. and_then o (λ u. pure (act.Cas r x a b))) (expect_reads names s.Close (to_ i last) to close)
+    ∙ bind_value (operand names (to_ i c3)) _ a (to_ i c5) (operand_reads names (to_ i c3) a c4 c5 comma e1 (ends_before names s.Comma c5 c6 comma2 refl refl refl))
+    ∙ ap (λ o. and_then o (λ b. pure (act.Cas r x a b)))
+    (bind_value (operand names (to_ i c5)) _ b (to_ i last) (operand_reads names (to_ i c5) b c6 last comma2 e2 (ends_before names s.Close last to close refl refl refl))
+    ∙ ap (λ o. and_then o (λ u. pure b)) (expect_reads names s.Close (to_ i last) to close))
 
 -- an act that a keyword begins
 keyword_act : (names : NameTable) (i : Input) (x : Keyword) (mid : Cursor) (st : Stands names (word (spelling x)) i.cursor mid) → an_act names i ≡ act_by names st.lexeme (Some x) (to_ i mid)

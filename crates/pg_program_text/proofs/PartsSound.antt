@@ -36,7 +36,7 @@ use Rattle.pg_program_text.specs.declared.keyword.Keyword.{Keyword}
 use Rattle.pg_program_text.specs.declared.keyword.Keyword.TheVariants as k
 use Rattle.pg_program_text.specs.Keywords.{spelling, keyword, keyword_by, keyword_of}
 use Rattle.pg_program_text.specs.Expr.{sum, factor_of}
-use Rattle.pg_program_text.specs.Stmt.{with_room, expression, behind, formula, opens_note, opened, note, equal_at, told, a_test, swap, load_or_assign, assigned_by, assigned, to_name, named_act, act_by, an_act, auxiliary_in, one_more, assignment, goes_on_or_ends, separator, assignments_on, bracket_by, bracket}
+use Rattle.pg_program_text.specs.Stmt.{with_room, expression, behind, formula, opens_note, opened, note, equal_at, told, test_sign, a_test, operand, last_operand, swap, load_or_assign, assigned_by, assigned, to_name, named_act, act_by, an_act, auxiliary_in, one_more, assignment, goes_on_or_ends, separator, assignments_on, bracket_by, bracket}
 use Rattle.pg_program_text.specs.Grammar as g
 use Rattle.pg_program_text.specs.Grammar.{IsExpr, IsNote, IsTest, IsAct, IsAssignment, AreAssignments, IsBracket, equality}
 use Rattle.pg_program_text.proofs.ExprSound.{expr_found}
@@ -133,12 +133,12 @@ equal_found t b h = by (is_sign s.Equal t.kind) refl h
     by false e g = second (is_sign s.NotEqual t.kind) refl g
 
 pub test_found : (names : NameTable) (i j : Input) (c : Cond) → a_test names i ≡ Ok (c, j) → Passed (IsTest names) i c j
-unfolding a_test
+unfolding a_test test_sign
 test_found names i j c h =
     bind_then (expression names i) _ (c, j) h (λ a l first rest.
-    bind_then (next l) _ (c, j) rest (λ t m read rest2.
-    bind_then (told (equal_at t) m) _ (c, j) rest2 (λ b n tells rest3.
-    bind_then (expression names n) _ (c, j) rest3 (λ d o second end.
+    bind_then (test_sign l) _ (c, j) rest (λ b n compares rest2.
+    bind_then (expression names n) _ (c, j) rest2 (λ d o second end.
+    bind_then (next l) _ (b, n) compares (λ t m read tells.
     told_then (equal_at t) m (b, n) tells (λ b2 is same.
     let left = expression_found names i l a first in
     let right = expression_found names n o d second in
@@ -224,27 +224,39 @@ ended names is i j t = t.stand
 stay : (names : NameTable) (is : List Item) (i j : Input) → Takes names is 0 i j → i.room ≡ j.room
 stay names is i j t = let r = t.room in omega arith
 
+-- a comma and an expression
+record Operand (names : NameTable) (i : Input) (a : Expr) (j : Input) : Type 0 where
+  mid : Input
+  comma : Takes names (sign s.Comma ∷ []) 0 i mid
+  expr_is : Passed (IsExpr names) mid a j
+
+operand_found : (names : NameTable) (i j : Input) (a : Expr) → operand names i ≡ Ok (a, j) → Operand names i a j
+unfolding operand
+operand_found names i j a h =
+    bind_then (expect s.Comma i) (λ u. expression names) (a, j) h (λ u m comma reads.
+    record { mid = m; comma = expect_found names s.Comma i m u comma; expr_is = expression_found names m j a reads })
+
 swap_found : (names : NameTable) (r : ℕ) (i m j : Input) (a : Act) → Takes names (scalar r ∷ sign s.Assign ∷ word (spelling k.Cas) ∷ []) 0 i m → swap names r m ≡ Ok (a, j)
     → Passed (IsAct names) i a j
-unfolding swap
+unfolding swap last_operand
 swap_found names r i m j a first h =
     bind_then (and_then (expect s.Open m) (λ u. input.location names)) _ (a, j) h (λ x l one rest.
     bind_then (expect s.Open m) (λ u. input.location names) (x, l) one (λ u n bracket_open named_x.
-    bind_then (and_then (expect s.Comma l) (λ u. expression names)) _ (a, j) rest (λ b p two rest2.
-    bind_then (expect s.Comma l) (λ u. expression names) (b, p) two (λ v o comma expected.
-    bind_then (and_then (expect s.Comma p) (λ u. expression names)) _ (a, j) rest2 (λ c q three rest3.
-    bind_then (expect s.Comma p) (λ u. expression names) (c, q) three (λ w t comma2 desired.
-    bind_then (expect s.Close q) _ (a, j) rest3 (λ z y close end.
-    let head = takes_then first (takes_then (expect_found names s.Open m n u bracket_open) (takes_then (location_found names n l x named_x) (expect_found names s.Comma l o v comma))) in
-    let e1 = expression_found names o p b expected in
-    let c2 = expect_found names s.Comma p t w comma2 in
-    let e2 = expression_found names t q c desired in
-    let cl = expect_found names s.Close q y z close in
-    subst (λ (q : Act × Input). Passed (IsAct names) i q.0 q.1) (ok_same (act.Cas r x b c, y) (a, j) end)
+    bind_then (operand names l) _ (a, j) rest (λ b p two rest2.
+    bind_then (last_operand names p) _ (a, j) rest2 (λ c y three end.
+    bind_then (operand names p) _ (c, y) three (λ d q four rest3.
+    bind_then (expect s.Close q) _ (c, y) rest3 (λ z v close last.
+    let o1 = operand_found names l p b two in
+    let o2 = operand_found names p q d four in
+    let head = takes_then first (takes_then (expect_found names s.Open m n u bracket_open) (takes_then (location_found names n l x named_x) o1.comma)) in
+    let cl = expect_found names s.Close q v z close in
+    subst (λ (w : Act × Input). Passed (IsAct names) i w.0 w.1) (ok_same (act.Cas r x b c, y) (a, j) end)
+    (subst (λ (w : Expr × Input). Passed (IsAct names) i (act.Cas r x b w.0) w.1) (ok_same (d, v) (c, y) last)
     (record {
-      is = g.a_cas r x b c i.cursor o.cursor p.cursor t.cursor q.cursor y.cursor head.stand e1.is (subst (Stands names (sign s.Comma) p.cursor) (sym c2.stand.2) c2.stand.1) e2.is
+      is = g.a_cas r x b d i.cursor o1.mid.cursor p.cursor o2.mid.cursor q.cursor v.cursor head.stand o1.expr_is.is
+          (subst (Stands names (sign s.Comma) p.cursor) (sym o2.comma.stand.2) o2.comma.stand.1) o2.expr_is.is
           (subst (Stands names (sign s.Close) q.cursor) (sym cl.stand.2) cl.stand.1);
-      room = let a1 = head.room in let a2 = e1.room in let a3 = c2.room in let a4 = e2.room in let a5 = cl.room in omega arith;
+      room = let a1 = head.room in let a2 = o1.expr_is.room in let a3 = o2.comma.room in let a4 = o2.expr_is.room in let a5 = cl.room in omega arith;
     }))))))))
 
 assign_found : (names : NameTable) (r : ℕ) (i m j : Input) (a : Act) → Takes names (scalar r ∷ sign s.Assign ∷ []) 0 i m

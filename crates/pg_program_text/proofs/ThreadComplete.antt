@@ -2,7 +2,6 @@
 use Rattle.std.proofs.Common.{◌≡◌, ◌≢◌, ℕ, zero, suc, ◌+◌, ◌-◌, ◌<◌, ◌≤◌, true, false, Ok, Err, Some, None, List, [], ◌∷◌, ◌++◌, length, refl, ap, sym, ◌∙◌, arith, append_assoc, length-append}
 use Rattle.std.proofs.lemmas.List.{append-nil}
 use Rattle.std.specs.Prelude.{Option, Result, is_ok, IfOk}
-use Rattle.std.specs.Result.{result_unwrap_or}
 use Rattle.pg_lex.specs.declared.token.Sign.{Sign}
 use Rattle.pg_lex.specs.declared.token.Sign.TheVariants as s
 use Rattle.pg_lex.specs.declared.fault.TextFault.{TextFault}
@@ -28,13 +27,13 @@ use Rattle.pg_program_text.specs.declared.thread.ThreadText.{ThreadText}
 use Rattle.pg_program_text.specs.declared.thread.TheConstants.{MAX_POINTS, MAX_BLOCKS}
 use Rattle.pg_program_text.specs.Keywords.{spelling, keyword}
 use Rattle.pg_program_text.specs.Stmt.{a_test, an_act, bracket}
-use Rattle.pg_program_text.specs.Thread.{Lines, Noted, no_lines, bare, with_line, simple, ends_by, ends, line_or_end, lines_on, lines, block, else_by, else_part, joined, branch, repeat, statement_by, statement_in, statement, begins, begins_by, line_or_last, body_on, thread_at}
+use Rattle.pg_program_text.specs.Thread.{Lines, Noted, no_lines, bare, with_line, ending, simple, ends_by, ends, line_or_end, lines_on, lines, block, else_by, else_part, joined, branch, repeat, statement_by, statement_in, statement, begins, begins_by, line_or_last, body_on, thread_at}
 use Rattle.pg_program_text.specs.Text.{lines as lines_of, ReadsAt, Answers, HasOneReading}
 use Rattle.pg_program_text.specs.Grammar as g
 use Rattle.pg_program_text.specs.Grammar.{Part, IsPart, a_simple, an_if, a_while, an_else, no_else, in_braces, no_lines as none, a_line, IsAct, an_assign, a_store, a_load, a_cas, an_mfence, an_sfence, a_flush, a_flushopt, IsBracket, IsTest, IsNote, IsBody, last_note, body_line, BeginsNone, IsThreadText}
 use Rattle.pg_program_text.proofs.ExprComplete.{at, ends_before}
 use Rattle.pg_program_text.proofs.PartsComplete.{note_reads, test_reads, act_reads, bracket_reads, bracket_ends, keyword_reads, sign_no_keyword, name_no_keyword}
-use Rattle.pg_program_text.proofs.ThreadSound.{thread_found}
+use Rattle.pg_program_text.proofs.ThreadSound.{thread_found, same_result}
 
 -- the next token is no keyword
 pub record NoKeyword (c : Cursor) : Type 0 where
@@ -65,11 +64,12 @@ statement_is names (suc n) = refl
 
 simple_reads : (names : NameTable) (a : Act) (b : List AuxAssign) (room : ℕ) (from mid end to : Cursor) → IsAct names from a mid → IsBracket names mid b end → Stands names (sign s.Semicolon) end to
     → simple names (at from room) ≡ Ok (record { stmt = roll-Stmt (record { act = a; aux = b }); notes = [] }, at to room)
-unfolding simple
+unfolding simple ending
 simple_reads names a b room from mid end to is br semi =
     bind_value (an_act names (at from room)) _ a (at mid room) (act_reads names room from a mid is (bracket_ends names mid b end to br semi))
-    ∙ bind_value (bracket names (at mid room)) _ b (at end room) (bracket_reads names room mid b end to br semi)
-    ∙ ap (λ o. and_then o (λ u. pure (record { stmt = roll-Stmt (record { act = a; aux = b }); notes = [] }))) (expect_reads names s.Semicolon (at end room) to semi)
+    ∙ ap (λ o. and_then o (λ b. pure (record { stmt = roll-Stmt (record { act = a; aux = b }); notes = [] })))
+    (bind_value (bracket names (at mid room)) _ b (at end room) (bracket_reads names room mid b end to br semi)
+    ∙ ap (λ o. and_then o (λ u. pure b)) (expect_reads names s.Semicolon (at end room) to semi))
 
 -- a statement begins with the next token
 pub record Begun (names : NameTable) (c : Cursor) : Type 0 where
@@ -336,9 +336,6 @@ unfolding thread_at
 thread_reads names c to l is = ap placed (body_reads names c to l.stmts l.notes is.body is.stops MAX_POINTS is.few (MAX_POINTS + 1) (omega arith) no_lines)
 
 -- ---- answers
-
-same_result : {A : Type 0} (p q : A × Cursor) → ◌≡◌ {A = Result (A × Cursor) TextFault} (Ok p) (Ok q) → p ≡ q
-same_result {A} p q h = let value : Result (A × Cursor) TextFault → A × Cursor = λ r. result_unwrap_or r p in ap value h
 
 pub one_reading : HasOneReading
 one_reading names from a b l m first second =

@@ -9,6 +9,7 @@ use Rattle.pg_lex.specs.Lex.{Cursor, Lexeme, token, after}
 use Rattle.pg_program.specs.NameTable.{NameTable}
 use Rattle.pg_program.specs.declared.syntax.Stmt.{Stmt, roll-Stmt}
 use Rattle.pg_program.specs.declared.syntax.Act.TheVariants as act
+use Rattle.pg_program.specs.declared.syntax.AuxAssign.{AuxAssign}
 use Rattle.pg_assertion.specs.declared.atom.RawAtom.{RawAtom}
 use Rattle.pg_assertion.specs.Formula.{Plain}
 use Rattle.pg_assertion_text.specs.Words.{Stands, sign, word}
@@ -20,7 +21,7 @@ use Rattle.pg_program_text.specs.declared.keyword.Keyword.TheVariants as k
 use Rattle.pg_program_text.specs.declared.thread.TheConstants.{MAX_POINTS, MAX_BLOCKS}
 use Rattle.pg_program_text.specs.Keywords.{spelling, keyword}
 use Rattle.pg_program_text.specs.Stmt.{note, a_test, an_act, bracket}
-use Rattle.pg_program_text.specs.Thread.{Lines, Noted, no_lines, bare, with_line, simple, ends_by, ends, line_or_end, lines_on, lines, refuse_block, block, else_by, else_part, joined, branch, repeat, statement_by, statement_in, statement, begins, line_or_last, body_on, body, thread_at}
+use Rattle.pg_program_text.specs.Thread.{Lines, Noted, no_lines, bare, with_line, ending, simple, ends_by, ends, line_or_end, lines_on, lines, refuse_block, block, else_by, else_part, joined, branch, repeat, statement_by, statement_in, statement, begins, line_or_last, body_on, body, thread_at}
 use Rattle.pg_program_text.specs.Grammar as g
 use Rattle.pg_program_text.specs.Grammar.{Part, IsPart, IsNote, IsBody, BeginsNone, IsThreadText}
 use Rattle.pg_program_text.proofs.PartsSound.{note_found, test_found, act_found, bracket_found, keyword_found}
@@ -35,19 +36,22 @@ abbrev pub alone : Noted → Lines
 alone n = record { stmts = n.stmt ∷ []; notes = n.notes }
 
 simple_found : (names : NameTable) (m : ℕ) (i j : Input) (n : Noted) → simple names i ≡ Ok (n, j) → Found names g.stmt m i (alone n) j
-unfolding simple
+unfolding simple ending
 simple_found names m i j n h =
     bind_then (an_act names i) _ (n, j) h (λ a l first rest.
-    bind_then (bracket names l) _ (n, j) rest (λ b o second rest2.
-    bind_then (expect s.Semicolon o) _ (n, j) rest2 (λ u p semi end.
+    bind_then (ending names l) _ (n, j) rest (λ b p second end.
+    bind_then (bracket names l) _ (b, p) second (λ d o third rest2.
+    bind_then (expect s.Semicolon o) _ (b, p) rest2 (λ u v semi last.
     let one = act_found names i l a first in
-    let two = bracket_found names l o b second in
-    let c = expect_found names s.Semicolon o p u semi in
-    subst (λ (q : Noted × Input). Found names g.stmt m i (alone q.0) q.1) (ok_same (record { stmt = roll-Stmt (record { act = a; aux = b }); notes = [] }, p) (n, j) end)
+    let two = bracket_found names l o d third in
+    let c = expect_found names s.Semicolon o v u semi in
+    let simple_of : List AuxAssign → Noted = λ aux. record { stmt = roll-Stmt (record { act = a; aux = aux }); notes = [] } in
+    subst (λ (q : Noted × Input). Found names g.stmt m i (alone q.0) q.1) (ok_same (simple_of b, p) (n, j) end)
+    (subst (λ (q : List AuxAssign × Input). Found names g.stmt m i (alone (simple_of q.0)) q.1) (ok_same (d, v) (b, p) last)
     (record {
-      is = g.a_simple m a b i.cursor l.cursor o.cursor p.cursor one.is two.is (subst (Stands names (sign s.Semicolon) o.cursor) (sym c.stand.2) c.stand.1);
+      is = g.a_simple m a d i.cursor l.cursor o.cursor v.cursor one.is two.is (subst (Stands names (sign s.Semicolon) o.cursor) (sym c.stand.2) c.stand.1);
       room = let r1 = one.room in let r2 = two.room in let r3 = c.room in omega arith;
-    }))))
+    }))))))
 
 -- ---- blocks
 
@@ -288,7 +292,7 @@ body_on_found names (suc n) before all i j h =
           stops = record { lexeme = t; read = read; begins_none = is };
         })
 
-same_result : {A : Type 0} (p q : A × Cursor) → ◌≡◌ {A = Result (A × Cursor) TextFault} (Ok p) (Ok q) → p ≡ q
+pub same_result : {A : Type 0} (p q : A × Cursor) → ◌≡◌ {A = Result (A × Cursor) TextFault} (Ok p) (Ok q) → p ≡ q
 same_result {A} p q h = let value : Result (A × Cursor) TextFault → A × Cursor = λ r. result_unwrap_or r p in ap value h
 
 placed_then : {A X : Type 0} (o : Outcome A) (a : A) (to : Cursor) → placed o ≡ Ok (a, to) → ((j : Input) → o ≡ Ok (a, j) → j.cursor ≡ to → X) → X

@@ -70,23 +70,37 @@ abbrev pub told : {A : Type 0} → Result A TextFault → Parser A
 told (Ok a) = pure a
 told (Err e) = λ i. Err e
 
+unfoldable pub test_sign : Parser Bool
+test_sign = do
+  t ← next
+  told (equal_at t)
+
 unfoldable pub a_test : NameTable → Parser Cond
 a_test names = do
   a ← expression names
-  t ← next
-  equal ← told (equal_at t)
+  equal ← test_sign
   b ← expression names
   pure (record { left = a; right = b; equal = equal })
 
 -- ---- acts
 
+-- `, expr`
+unfoldable pub operand : NameTable → Parser Expr
+operand names = expect s.Comma >> expression names
+
+-- `, expr )`
+unfoldable pub last_operand : NameTable → Parser Expr
+last_operand names = do
+  a ← operand names
+  (expect s.Close >> pure a)
+
 -- `( x , expected , desired )`, behind `r := cas`
 unfoldable pub swap : NameTable → ℕ → Parser Act
 swap names r = do
   x ← (expect s.Open >> location names)
-  a ← (expect s.Comma >> expression names)
-  b ← (expect s.Comma >> expression names)
-  (expect s.Close >> pure (act.Cas r x a b))
+  a ← operand names
+  b ← last_operand names
+  pure (act.Cas r x a b)
 
 -- a load where a location stands, and else an assignment
 abbrev pub load_or_assign : NameTable → ℕ → Result NameRef TextKind → Parser Act

@@ -11,6 +11,7 @@ use Rattle.pg_program.specs.declared.syntax.Stmt.{Stmt, roll-Stmt}
 use Rattle.pg_program.specs.declared.syntax.Cond.{Cond}
 use Rattle.pg_program.specs.declared.syntax.Act.{Act}
 use Rattle.pg_program.specs.declared.syntax.Act.TheVariants as act
+use Rattle.pg_program.specs.declared.syntax.AuxAssign.{AuxAssign}
 use Rattle.pg_assertion.specs.declared.atom.RawAtom.{RawAtom}
 use Rattle.pg_assertion.specs.Formula.{Plain}
 use Rattle.pg_assertion_text.specs.Input.{Parser, ◌>>=◌, ◌>>◌, pure, refuse, peek, next, expect, is_sign, named}
@@ -42,12 +43,18 @@ bare a = roll-Stmt (record { act = a; aux = [] })
 abbrev pub with_line : Lines → Plain RawAtom → Noted → Lines
 with_line l f n = record { stmts = l.stmts ++ n.stmt ∷ []; notes = l.notes ++ f ∷ n.notes }
 
+-- `bracket ;`
+unfoldable pub ending : NameTable → Parser (List AuxAssign)
+ending names = do
+  b ← bracket names
+  (expect s.Semicolon >> pure b)
+
 -- `act bracket ;`
 unfoldable pub simple : NameTable → Parser Noted
 simple names = do
   a ← an_act names
-  b ← bracket names
-  (expect s.Semicolon >> pure (record { stmt = roll-Stmt (record { act = a; aux = b }); notes = [] }))
+  b ← ending names
+  pure (record { stmt = roll-Stmt (record { act = a; aux = b }); notes = [] })
 
 -- ---- blocks
 

@@ -7,7 +7,7 @@ ghost use Rattle.pg_program_text.specs.Keywords as spec;
 use pg_lex::{Token, TokenKind};
 
 /// A reserved word of statements.
-#[derive(Clone, Copy, Debug, PartialEq, Eq)]
+#[derive(Clone, Copy)]
 pub enum Keyword {
     Mfence,
     Sfence,

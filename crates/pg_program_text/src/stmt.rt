@@ -82,7 +82,7 @@ pub fn note(
     Ok(f)
 }
 
-/// `=` or `!=`: whether a test is for equality.
+/// Whether a token is `=` or `!=`, and a test is for equality.
 fn equality(token: &Token<'_>) -> Result<bool, TextFault>
     ensures { spec.equal_at (lexeme token.now) ≡ result }
 {
@@ -95,16 +95,43 @@ fn equality(token: &Token<'_>) -> Result<bool, TextFault>
     }
 }
 
+/// `=` or `!=`: whether a test is for equality.
+#[tactic(auto, unfolding(crate::specs::Stmt::test_sign))]
+fn test_sign(tokens: &mut Tokens<'_>) -> Result<bool, TextFault>
+    ensures { Does (λ b. b) (spec.test_sign tokens.old) result tokens.new }
+{
+    let token = tokens.next()?;
+    equality(&token)
+}
+
 /// A test.
 #[tactic(auto, unfolding(crate::specs::Stmt::a_test))]
 pub fn test(alloc: Global, tokens: &mut Tokens<'_>, names: &Names) -> Result<Cond, TextFault>
     ensures { Reads (λ c. c) (spec.a_test names.now tokens.old) result tokens.new }
 {
     let left = expression(alloc, tokens, names)?;
-    let token = tokens.next()?;
-    let equal = equality(&token)?;
+    let equal = test_sign(tokens)?;
     let right = expression(alloc, tokens, names)?;
     Ok(Cond { left, right, equal })
+}
+
+/// `, expr`
+#[tactic(auto, unfolding(crate::specs::Stmt::operand))]
+fn operand(alloc: Global, tokens: &mut Tokens<'_>, names: &Names) -> Result<Expr, TextFault>
+    ensures { Reads (λ a. a) (spec.operand names.now tokens.old) result tokens.new }
+{
+    tokens.expect(Sign::Comma)?;
+    expression(alloc, tokens, names)
+}
+
+/// `, expr )`
+#[tactic(auto, unfolding(crate::specs::Stmt::last_operand))]
+fn last_operand(alloc: Global, tokens: &mut Tokens<'_>, names: &Names) -> Result<Expr, TextFault>
+    ensures { Reads (λ a. a) (spec.last_operand names.now tokens.old) result tokens.new }
+{
+    let expr = operand(alloc, tokens, names)?;
+    tokens.expect(Sign::Close)?;
+    Ok(expr)
 }
 
 /// `( x , expected , desired )`, behind `r := cas`.
@@ -114,11 +141,8 @@ fn swap(alloc: Global, tokens: &mut Tokens<'_>, names: &Names, target: u8) -> Re
 {
     tokens.expect(Sign::Open)?;
     let location = tokens.location(names)?;
-    tokens.expect(Sign::Comma)?;
-    let expected = expression(alloc, tokens, names)?;
-    tokens.expect(Sign::Comma)?;
-    let desired = expression(alloc, tokens, names)?;
-    tokens.expect(Sign::Close)?;
+    let expected = operand(alloc, tokens, names)?;
+    let desired = last_operand(alloc, tokens, names)?;
     Ok(Act::Cas {
         target,
         location,

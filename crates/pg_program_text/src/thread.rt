@@ -17,7 +17,7 @@ use pg_assertion::{Formula, RawAtom};
 use pg_assertion_text::Tokens;
 use pg_assertion_text::tokens::{is_sign, named, refused, unexpected};
 use pg_lex::{Lexer, Sign, TextFault, TextKind, Token};
-use pg_program::{Act, Cond, Names, Stmt};
+use pg_program::{Act, AuxAssign, Cond, Names, Stmt};
 use sqlite_items::Items;
 use std::alloc::{AllocError, Global};
 
@@ -28,14 +28,14 @@ pub const MAX_POINTS: u32 = 32;
 pub const MAX_BLOCKS: u32 = 16;
 
 /// The statements of a thread or of a block, and the notes of its points in the order of the text.
-#[derive(Debug, Drop)]
+#[derive(Drop)]
 pub struct ThreadText {
     pub stmts: Vec<Stmt>,
     pub notes: Vec<Formula<RawAtom>>,
 }
 
 /// A statement, and the notes of the points within its blocks.
-#[derive(Debug, Drop)]
+#[derive(Drop)]
 struct NotedStmt {
     stmt: Stmt,
     notes: Vec<Formula<RawAtom>>,
@@ -74,14 +74,27 @@ fn bare(alloc: Global, act: Act) -> Stmt
     }
 }
 
+/// The bracket of a statement, or none, and its `;`.
+#[tactic(auto, unfolding(crate::specs::Thread::ending))]
+fn ending(
+    alloc: Global,
+    tokens: &mut Tokens<'_>,
+    names: &Names,
+) -> Result<Items<AuxAssign>, TextFault>
+    ensures { Reads (λ b. b) (spec.ending names.now tokens.old) result tokens.new }
+{
+    let aux = bracket(alloc, tokens, names)?;
+    tokens.expect(Sign::Semicolon)?;
+    Ok(aux)
+}
+
 /// A statement that is no branch and no loop.
 #[tactic(auto, unfolding(crate::specs::Thread::simple))]
 fn simple(alloc: Global, tokens: &mut Tokens<'_>, names: &Names) -> Result<NotedStmt, TextFault>
     ensures { Reads noted (spec.simple names.now tokens.old) result tokens.new }
 {
     let act = act(alloc, tokens, names)?;
-    let aux = bracket(alloc, tokens, names)?;
-    tokens.expect(Sign::Semicolon)?;
+    let aux = ending(alloc, tokens, names)?;
     Ok(NotedStmt {
         stmt: Stmt { act, aux },
         notes: Vec::new(alloc),
