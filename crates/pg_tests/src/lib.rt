@@ -23,6 +23,8 @@ mod paths;
 #[cfg(test)]
 mod programs;
 #[cfg(test)]
+mod regions;
+#[cfg(test)]
 mod rooms;
 #[cfg(test)]
 mod spellings;
