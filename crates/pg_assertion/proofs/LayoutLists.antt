@@ -2,7 +2,7 @@
 use Rattle.std.proofs.Common.{◌≡◌, ℕ, ◌+◌, ◌-◌, ◌*◌, ◌<◌, List, length, Some, ap, ◌∙◌, arith}
 use Rattle.std.specs.List.{slice_get, flat_map}
 use Rattle.pg_assertion.specs.Layout.{Sizes, IsThread, values, locations, threads, cells, seen_cells, cell_pairs, thread_locations, cell_place, seen_place, pair_place, view_place}
-use Rattle.pg_assertion.proofs.LayoutPlaces.{length-rows, stands_in_rows, of_rows, grid, length-grid, stands_in_grid, of_grid, nested_place}
+use Rattle.pg_assertion.proofs.LayoutPlaces.{length-rows, stands_in_rows, InRows, of_rows, grid, length-grid, stands_in_grid, InGrid, of_grid, nested_place}
 
 -- Locations with a value, these for each thread, pairs of them, and locations for each thread; `g` is any kind.
 abbrev pub cell_list : {A : Type 0} → Sizes → (ℕ → ℕ → A) → List A
@@ -50,9 +50,10 @@ pub record IsCell {A : Type 0} (l : Sizes) (g : ℕ → ℕ → A) (i : ℕ) (e 
   pub is : g x v ≡ e
 
 pub of_cells : {A : Type 0} (l : Sizes) (g : ℕ → ℕ → A) (i : ℕ) (e : A) → slice_get (cell_list l g) i ≡ Some e → IsCell l g i e
-of_cells l g i e h =
-    let p = of_grid g 0 l.locations l.domain i e h in
-    record {
+of_cells l g i e h = by (of_grid g 0 l.locations l.domain i e h)
+  where
+    by : InGrid g 0 l.locations l.domain i e → IsCell l g i e
+    by p = record {
       x = p.row;
       v = p.column;
       x_below = p.row_below;
@@ -75,20 +76,24 @@ thread_from : (l : Sizes) (row : ℕ) → row < l.threads → IsThread l (1 + ro
 thread_from l row below = record { first = omega arith; last = omega arith }
 
 pub of_seen : {A : Type 0} (l : Sizes) (g : ℕ → ℕ → ℕ → A) (i : ℕ) (e : A) → slice_get (seen_list l g) i ≡ Some e → IsSeen l g i e
-of_seen l g i e h =
-    let p = of_rows (λ u. cell_list l (g u)) (cells l) 1 l.threads i e (λ u. length-cell_list l (g u)) h in
-    let q = of_cells l (g (1 + p.row)) p.column e p.stands in
-    let s : 1 + p.row - 1 ≡ p.row = omega arith in
-    record {
-      t = 1 + p.row;
-      x = q.x;
-      v = q.v;
-      is_thread = thread_from l p.row p.row_below;
-      x_below = q.x_below;
-      v_below = q.v_below;
-      place = rw s (p.place ∙ ap (λ k. p.row * cells l + k) q.place);
-      is = q.is;
-    }
+of_seen l g i e h = by (of_rows (λ u. cell_list l (g u)) (cells l) 1 l.threads i e (λ u. length-cell_list l (g u)) h)
+  where
+    seen : (row column : ℕ) → row < l.threads → i ≡ row * cells l + column → IsCell l (g (1 + row)) column e → IsSeen l g i e
+    seen row column below place q =
+        let s : 1 + row - 1 ≡ row = omega arith in
+        record {
+          t = 1 + row;
+          x = q.x;
+          v = q.v;
+          is_thread = thread_from l row below;
+          x_below = q.x_below;
+          v_below = q.v_below;
+          place = rw s (place ∙ ap (λ k. row * cells l + k) q.place);
+          is = q.is;
+        }
+
+    by : InRows (λ u. cell_list l (g u)) (cells l) 1 l.threads i e → IsSeen l g i e
+    by p = seen p.row p.column p.row_below p.place (of_cells l (g (1 + p.row)) p.column e p.stands)
 
 pub record IsView {A : Type 0} (l : Sizes) (g : ℕ → ℕ → A) (i : ℕ) (e : A) : Type 0 where
   pub t : ℕ
@@ -99,17 +104,19 @@ pub record IsView {A : Type 0} (l : Sizes) (g : ℕ → ℕ → A) (i : ℕ) (e 
   pub is : g t x ≡ e
 
 pub of_views : {A : Type 0} (l : Sizes) (g : ℕ → ℕ → A) (i : ℕ) (e : A) → slice_get (view_list l g) i ≡ Some e → IsView l g i e
-of_views l g i e h =
-    let p = of_grid g 1 l.threads l.locations i e h in
-    let s : 1 + p.row - 1 ≡ p.row = omega arith in
-    record {
-      t = 1 + p.row;
-      x = p.column;
-      is_thread = thread_from l p.row p.row_below;
-      x_below = p.column_below;
-      place = rw s p.place;
-      is = p.is;
-    }
+of_views l g i e h = by (of_grid g 1 l.threads l.locations i e h)
+  where
+    by : InGrid g 1 l.threads l.locations i e → IsView l g i e
+    by p =
+        let s : 1 + p.row - 1 ≡ p.row = omega arith in
+        record {
+          t = 1 + p.row;
+          x = p.column;
+          is_thread = thread_from l p.row p.row_below;
+          x_below = p.column_below;
+          place = rw s p.place;
+          is = p.is;
+        }
 
 -- Lists of the width w, one for each location with a value.
 abbrev pub cell_rows : {A : Type 0} → Sizes → (ℕ → ℕ → List A) → List A
@@ -144,20 +151,25 @@ record InCellRows {A : Type 0} (l : Sizes) (f : ℕ → ℕ → List A) (w i : �
 
 of_cell_rows : {A : Type 0} (l : Sizes) (f : ℕ → ℕ → List A) (w i : ℕ) (a : A) → ((x v : ℕ) → length (f x v) ≡ w)
     → slice_get (cell_rows l f) i ≡ Some a → InCellRows l f w i a
-of_cell_rows l f w i a wide h =
-    let p = of_rows (λ y. flat_map (λ k. f y k) (values l)) (w * l.domain) 0 l.locations i a (length-values l f w wide) h in
-    let s : 0 + p.row ≡ p.row = omega arith in
-    let q = of_rows (λ k. f p.row k) w 0 l.domain p.column a (wide p.row) (rw s at p.stands) in
-    let t : 0 + q.row ≡ q.row = omega arith in
-    record {
-      x = p.row;
-      v = q.row;
-      j = q.column;
-      x_below = p.row_below;
-      v_below = q.row_below;
-      place = p.place ∙ (ap (λ k. p.row * (w * l.domain) + k) q.place ∙ nested_place p.row q.row l.domain w q.column);
-      stands = rw t at q.stands;
-    }
+of_cell_rows l f w i a wide h = by (of_rows (λ y. flat_map (λ k. f y k) (values l)) (w * l.domain) 0 l.locations i a (length-values l f w wide) h)
+  where
+    in_rows : (x column : ℕ) → x < l.locations → i ≡ x * (w * l.domain) + column → InRows (λ k. f x k) w 0 l.domain column a → InCellRows l f w i a
+    in_rows x column below place q =
+        let t : 0 + q.row ≡ q.row = omega arith in
+        record {
+          x = x;
+          v = q.row;
+          j = q.column;
+          x_below = below;
+          v_below = q.row_below;
+          place = place ∙ (ap (λ k. x * (w * l.domain) + k) q.place ∙ nested_place x q.row l.domain w q.column);
+          stands = rw t at q.stands;
+        }
+
+    by : InRows (λ y. flat_map (λ k. f y k) (values l)) (w * l.domain) 0 l.locations i a → InCellRows l f w i a
+    by p =
+        let s : 0 + p.row ≡ p.row = omega arith in
+        in_rows p.row p.column p.row_below p.place (of_rows (λ k. f p.row k) w 0 l.domain p.column a (wide p.row) (rw s at p.stands))
 
 -- For each thread, a location with a value, and then another.
 abbrev pub pair_list : {A : Type 0} → Sizes → (ℕ → ℕ → ℕ → ℕ → ℕ → A) → List A
@@ -196,23 +208,33 @@ pub record IsPair {A : Type 0} (l : Sizes) (g : ℕ → ℕ → ℕ → ℕ → 
   pub is : g t x v y w ≡ e
 
 pub of_pairs : {A : Type 0} (l : Sizes) (g : ℕ → ℕ → ℕ → ℕ → ℕ → A) (i : ℕ) (e : A) → slice_get (pair_list l g) i ≡ Some e → IsPair l g i e
-of_pairs l g i e h =
-    let p = of_rows (λ k. cell_rows l (λ a b. cell_list l (g k a b))) (cells l * cells l) 1 l.threads i e (length-of_thread l g) h in
-    let q = of_cell_rows l (λ a b. cell_list l (g (1 + p.row) a b)) (cells l) p.column e (λ a b. length-cell_list l (g (1 + p.row) a b)) p.stands in
-    let r = of_cells l (g (1 + p.row) q.x q.v) q.j e q.stands in
-    let s : 1 + p.row - 1 ≡ p.row = omega arith in
-    record {
-      t = 1 + p.row;
-      x = q.x;
-      v = q.v;
-      y = r.x;
-      w = r.v;
-      is_thread = thread_from l p.row p.row_below;
-      x_below = q.x_below;
-      v_below = q.v_below;
-      y_below = r.x_below;
-      w_below = r.v_below;
-      place = rw s (p.place ∙ (ap (λ k. p.row * (cells l * cells l) + k) (q.place ∙ ap (λ k. cell_place l q.x q.v * cells l + k) r.place)
-          ∙ nested_place p.row (cell_place l q.x q.v) (cells l) (cells l) (cell_place l r.x r.v)));
-      is = r.is;
-    }
+of_pairs l g i e h = by (of_rows (λ k. cell_rows l (λ a b. cell_list l (g k a b))) (cells l * cells l) 1 l.threads i e (length-of_thread l g) h)
+  where
+    pair : (row column : ℕ) → row < l.threads → i ≡ row * (cells l * cells l) + column
+        → (q : InCellRows l (λ a b. cell_list l (g (1 + row) a b)) (cells l) column e) → IsCell l (g (1 + row) q.x q.v) q.j e → IsPair l g i e
+    pair row column below place q r =
+        let s : 1 + row - 1 ≡ row = omega arith in
+        record {
+          t = 1 + row;
+          x = q.x;
+          v = q.v;
+          y = r.x;
+          w = r.v;
+          is_thread = thread_from l row below;
+          x_below = q.x_below;
+          v_below = q.v_below;
+          y_below = r.x_below;
+          w_below = r.v_below;
+          place = rw s (place ∙ (ap (λ k. row * (cells l * cells l) + k) (q.place ∙ ap (λ k. cell_place l q.x q.v * cells l + k) r.place)
+              ∙ nested_place row (cell_place l q.x q.v) (cells l) (cells l) (cell_place l r.x r.v)));
+          is = r.is;
+        }
+
+    seconds : (row column : ℕ) → row < l.threads → i ≡ row * (cells l * cells l) + column
+        → InCellRows l (λ a b. cell_list l (g (1 + row) a b)) (cells l) column e → IsPair l g i e
+    seconds row column below place q = pair row column below place q (of_cells l (g (1 + row) q.x q.v) q.j e q.stands)
+
+    by : InRows (λ k. cell_rows l (λ a b. cell_list l (g k a b))) (cells l * cells l) 1 l.threads i e → IsPair l g i e
+    by p =
+        seconds p.row p.column p.row_below p.place
+        (of_cell_rows l (λ a b. cell_list l (g (1 + p.row) a b)) (cells l) p.column e (λ a b. length-cell_list l (g (1 + p.row) a b)) p.stands)

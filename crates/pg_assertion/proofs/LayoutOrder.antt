@@ -7,8 +7,8 @@ use Rattle.pg_assertion.specs.declared.atom.ViewAtom.TheVariants.{Scalar, Last, 
 use Rattle.pg_assertion.specs.declared.layout.Side.{Side}
 use Rattle.pg_assertion.specs.declared.layout.Side.TheVariants.{Before, After}
 use Rattle.pg_assertion.specs.Layout.{Sizes, IsAtom, scalar_atoms, last_atoms, read_atoms, persist_atoms, async_atoms, then_atoms, newest_atoms, ordered_atoms, fenced_atoms, atoms_in_order, cells, seen_cells, cell_pairs, thread_locations, scalar_place, cell_place, seen_place, pair_place, view_place, last_start, read_start, persist_start, async_start, then_start, newest_start, ordered_start, fenced_start, atoms, place_of, number, AtomsStandInOrder, PlacesAreNumbers, AtomsAreCounted, NumbersTellAtomsApart, NumbersHaveNoGap, NumbersTellSidesApart, number_on}
-use Rattle.pg_assertion.proofs.LayoutPlaces.{stands_before, stands_behind, stands_in_one, length-grid, stands_in_grid, InGrid, of_grid}
-use Rattle.pg_assertion.proofs.LayoutLists.{length-cell_list, length-seen_list, length-view_list, length-pair_list, stands_in_cells, stands_in_seen, stands_in_views, stands_in_pairs, IsCell, of_cells, IsSeen, of_seen, IsView, of_views, IsPair, of_pairs}
+use Rattle.pg_assertion.proofs.LayoutPlaces.{stands_before, stands_behind, stands_in_one, length-grid, stands_in_grid, of_grid}
+use Rattle.pg_assertion.proofs.LayoutLists.{length-cell_list, length-seen_list, length-view_list, length-pair_list, stands_in_cells, stands_in_seen, stands_in_views, stands_in_pairs, of_cells, of_seen, of_views, of_pairs}
 
 -- An atom has its place there.
 record IsPlaced (l : Sizes) (a : ViewAtom) (place : ℕ) : Type 0 where
@@ -31,105 +31,64 @@ joined {l} {xs} {ys} {m} {n} p q = record {
     by i a (inl h) = p.back i a h
     by i a (inr r) = let s : 0 + i ≡ m + r.0 = omega (arith, r.1) in rw s (q.back r.0 a r.2)
 
-scalar_part : (l : Sizes) → IsPart l (scalar_atoms l) 0 (last_start l)
-scalar_part l = record {
-  size_is = length-grid (λ r k. Scalar r k) 0 l.scalars l.domain;
-  back = λ (i : ℕ) (a : ViewAtom) (h : slice_get (scalar_atoms l) i ≡ Some a). by i a (of_grid (λ r k. Scalar r k) 0 l.scalars l.domain i a h);
+-- The atoms of a kind are made of arguments within range, and stand from a place on, each at the place of its arguments.
+kind_part : {E : Type 0} (l : Sizes) (xs : List ViewAtom) (start size : ℕ) (make : E → ViewAtom) (place : E → ℕ) → length xs ≡ size
+    → ((i : ℕ) (a : ViewAtom) → slice_get xs i ≡ Some a → (e : E) × IsPlaced l (make e) (start + place e) × (i ≡ place e) × (make e ≡ a))
+    → IsPart l xs start size
+kind_part l xs start size make place many of = record {
+  size_is = many;
+  back = λ (i : ℕ) (a : ViewAtom) (h : slice_get xs i ≡ Some a).
+      let p = of i a h in
+      subst (λ b. IsPlaced l b (start + i)) p.3 (subst (IsPlaced l (make p.0)) (ap (λ k. start + k) (sym p.2)) p.1);
 }
-  where
-    by : (i : ℕ) (a : ViewAtom) → InGrid (λ r k. Scalar r k) 0 l.scalars l.domain i a → IsPlaced l a (0 + i)
-    by i a p =
-        let s : 0 + p.row ≡ p.row = omega arith in
-        let e : Scalar p.row p.column ≡ a = rw s at p.is in
-        subst (λ b. IsPlaced l b (0 + i)) e (record { is_atom = (p.row_below, p.column_below); at = omega (arith, p.place) })
+
+scalar_part : (l : Sizes) → IsPart l (scalar_atoms l) 0 (last_start l)
+scalar_part l =
+    kind_part l (scalar_atoms l) 0 (last_start l) (λ (e : ℕ × ℕ). Scalar e.0 e.1) (λ e. scalar_place l e.0 e.1) (length-grid (λ r k. Scalar r k) 0 l.scalars l.domain)
+    (λ i a h.
+    let p = of_grid (λ r k. Scalar r k) 0 l.scalars l.domain i a h in
+    let s : 0 + p.row ≡ p.row = omega arith in
+    ((p.row, p.column), record { is_atom = (p.row_below, p.column_below); at = omega arith }, p.place, rw s at p.is))
 
 last_part : (l : Sizes) → IsPart l (last_atoms l) (last_start l) (cells l)
-last_part l = record {
-  size_is = length-cell_list l (λ x v. Last x v);
-  back = λ (i : ℕ) (a : ViewAtom) (h : slice_get (last_atoms l) i ≡ Some a). by i a (of_cells l (λ x v. Last x v) i a h);
-}
-  where
-    by : (i : ℕ) (a : ViewAtom) → IsCell l (λ x v. Last x v) i a → IsPlaced l a (last_start l + i)
-    by i a p =
-        subst (λ b. IsPlaced l b (last_start l + i)) p.is
-        (record { is_atom = (p.x_below, p.v_below); at = ap (λ k. last_start l + k) (sym p.place) })
+last_part l =
+    kind_part l (last_atoms l) (last_start l) (cells l) (λ (e : ℕ × ℕ). Last e.0 e.1) (λ e. cell_place l e.0 e.1) (length-cell_list l (λ x v. Last x v))
+    (λ i a h. let p = of_cells l (λ x v. Last x v) i a h in ((p.x, p.v), record { is_atom = (p.x_below, p.v_below); at = refl }, p.place, p.is))
 
 read_part : (l : Sizes) → IsPart l (read_atoms l) (read_start l) (seen_cells l)
-read_part l = record {
-  size_is = length-seen_list l (λ t x v. Read t x v);
-  back = λ (i : ℕ) (a : ViewAtom) (h : slice_get (read_atoms l) i ≡ Some a). by i a (of_seen l (λ t x v. Read t x v) i a h);
-}
-  where
-    by : (i : ℕ) (a : ViewAtom) → IsSeen l (λ t x v. Read t x v) i a → IsPlaced l a (read_start l + i)
-    by i a p =
-        subst (λ b. IsPlaced l b (read_start l + i)) p.is
-        (record { is_atom = (p.is_thread, p.x_below, p.v_below); at = ap (λ k. read_start l + k) (sym p.place) })
+read_part l =
+    kind_part l (read_atoms l) (read_start l) (seen_cells l) (λ (e : ℕ × ℕ × ℕ). Read e.0 e.1 e.2) (λ e. seen_place l e.0 e.1 e.2) (length-seen_list l (λ t x v. Read t x v))
+    (λ i a h. let p = of_seen l (λ t x v. Read t x v) i a h in ((p.t, p.x, p.v), record { is_atom = (p.is_thread, p.x_below, p.v_below); at = refl }, p.place, p.is))
 
 persist_part : (l : Sizes) → IsPart l (persist_atoms l) (persist_start l) (cells l)
-persist_part l = record {
-  size_is = length-cell_list l (λ x v. Persist x v);
-  back = λ (i : ℕ) (a : ViewAtom) (h : slice_get (persist_atoms l) i ≡ Some a). by i a (of_cells l (λ x v. Persist x v) i a h);
-}
-  where
-    by : (i : ℕ) (a : ViewAtom) → IsCell l (λ x v. Persist x v) i a → IsPlaced l a (persist_start l + i)
-    by i a p =
-        subst (λ b. IsPlaced l b (persist_start l + i)) p.is
-        (record { is_atom = (p.x_below, p.v_below); at = ap (λ k. persist_start l + k) (sym p.place) })
+persist_part l =
+    kind_part l (persist_atoms l) (persist_start l) (cells l) (λ (e : ℕ × ℕ). Persist e.0 e.1) (λ e. cell_place l e.0 e.1) (length-cell_list l (λ x v. Persist x v))
+    (λ i a h. let p = of_cells l (λ x v. Persist x v) i a h in ((p.x, p.v), record { is_atom = (p.x_below, p.v_below); at = refl }, p.place, p.is))
 
 async_part : (l : Sizes) → IsPart l (async_atoms l) (async_start l) (seen_cells l)
-async_part l = record {
-  size_is = length-seen_list l (λ t x v. Async t x v);
-  back = λ (i : ℕ) (a : ViewAtom) (h : slice_get (async_atoms l) i ≡ Some a). by i a (of_seen l (λ t x v. Async t x v) i a h);
-}
-  where
-    by : (i : ℕ) (a : ViewAtom) → IsSeen l (λ t x v. Async t x v) i a → IsPlaced l a (async_start l + i)
-    by i a p =
-        subst (λ b. IsPlaced l b (async_start l + i)) p.is
-        (record { is_atom = (p.is_thread, p.x_below, p.v_below); at = ap (λ k. async_start l + k) (sym p.place) })
+async_part l =
+    kind_part l (async_atoms l) (async_start l) (seen_cells l) (λ (e : ℕ × ℕ × ℕ). Async e.0 e.1 e.2) (λ e. seen_place l e.0 e.1 e.2) (length-seen_list l (λ t x v. Async t x v))
+    (λ i a h. let p = of_seen l (λ t x v. Async t x v) i a h in ((p.t, p.x, p.v), record { is_atom = (p.is_thread, p.x_below, p.v_below); at = refl }, p.place, p.is))
 
 then_part : (l : Sizes) → IsPart l (then_atoms l) (then_start l) (cell_pairs l)
-then_part l = record {
-  size_is = length-pair_list l (λ t x v y w. Then t x v y w);
-  back = λ (i : ℕ) (a : ViewAtom) (h : slice_get (then_atoms l) i ≡ Some a). by i a (of_pairs l (λ t x v y w. Then t x v y w) i a h);
-}
-  where
-    by : (i : ℕ) (a : ViewAtom) → IsPair l (λ t x v y w. Then t x v y w) i a → IsPlaced l a (then_start l + i)
-    by i a p =
-        subst (λ b. IsPlaced l b (then_start l + i)) p.is
-        (record { is_atom = (p.is_thread, p.x_below, p.v_below, p.y_below, p.w_below); at = ap (λ k. then_start l + k) (sym p.place) })
+then_part l =
+    kind_part l (then_atoms l) (then_start l) (cell_pairs l) (λ (e : ℕ × ℕ × ℕ × ℕ × ℕ). Then e.0 e.1 e.2 e.3 e.4) (λ e. pair_place l e.0 e.1 e.2 e.3 e.4) (length-pair_list l (λ t x v y w. Then t x v y w))
+    (λ i a h. let p = of_pairs l (λ t x v y w. Then t x v y w) i a h in ((p.t, p.x, p.v, p.y, p.w), record { is_atom = (p.is_thread, p.x_below, p.v_below, p.y_below, p.w_below); at = refl }, p.place, p.is))
 
 newest_part : (l : Sizes) → IsPart l (newest_atoms l) (newest_start l) (thread_locations l)
-newest_part l = record {
-  size_is = length-view_list l (λ t x. Newest t x);
-  back = λ (i : ℕ) (a : ViewAtom) (h : slice_get (newest_atoms l) i ≡ Some a). by i a (of_views l (λ t x. Newest t x) i a h);
-}
-  where
-    by : (i : ℕ) (a : ViewAtom) → IsView l (λ t x. Newest t x) i a → IsPlaced l a (newest_start l + i)
-    by i a p =
-        subst (λ b. IsPlaced l b (newest_start l + i)) p.is
-        (record { is_atom = (p.is_thread, p.x_below); at = ap (λ k. newest_start l + k) (sym p.place) })
+newest_part l =
+    kind_part l (newest_atoms l) (newest_start l) (thread_locations l) (λ (e : ℕ × ℕ). Newest e.0 e.1) (λ e. view_place l e.0 e.1) (length-view_list l (λ t x. Newest t x))
+    (λ i a h. let p = of_views l (λ t x. Newest t x) i a h in ((p.t, p.x), record { is_atom = (p.is_thread, p.x_below); at = refl }, p.place, p.is))
 
 ordered_part : (l : Sizes) → IsPart l (ordered_atoms l) (ordered_start l) (thread_locations l)
-ordered_part l = record {
-  size_is = length-view_list l (λ t x. Ordered t x);
-  back = λ (i : ℕ) (a : ViewAtom) (h : slice_get (ordered_atoms l) i ≡ Some a). by i a (of_views l (λ t x. Ordered t x) i a h);
-}
-  where
-    by : (i : ℕ) (a : ViewAtom) → IsView l (λ t x. Ordered t x) i a → IsPlaced l a (ordered_start l + i)
-    by i a p =
-        subst (λ b. IsPlaced l b (ordered_start l + i)) p.is
-        (record { is_atom = (p.is_thread, p.x_below); at = ap (λ k. ordered_start l + k) (sym p.place) })
+ordered_part l =
+    kind_part l (ordered_atoms l) (ordered_start l) (thread_locations l) (λ (e : ℕ × ℕ). Ordered e.0 e.1) (λ e. view_place l e.0 e.1) (length-view_list l (λ t x. Ordered t x))
+    (λ i a h. let p = of_views l (λ t x. Ordered t x) i a h in ((p.t, p.x), record { is_atom = (p.is_thread, p.x_below); at = refl }, p.place, p.is))
 
 fenced_part : (l : Sizes) → IsPart l (fenced_atoms l) (fenced_start l) (thread_locations l)
-fenced_part l = record {
-  size_is = length-view_list l (λ t x. Fenced t x);
-  back = λ (i : ℕ) (a : ViewAtom) (h : slice_get (fenced_atoms l) i ≡ Some a). by i a (of_views l (λ t x. Fenced t x) i a h);
-}
-  where
-    by : (i : ℕ) (a : ViewAtom) → IsView l (λ t x. Fenced t x) i a → IsPlaced l a (fenced_start l + i)
-    by i a p =
-        subst (λ b. IsPlaced l b (fenced_start l + i)) p.is
-        (record { is_atom = (p.is_thread, p.x_below); at = ap (λ k. fenced_start l + k) (sym p.place) })
+fenced_part l =
+    kind_part l (fenced_atoms l) (fenced_start l) (thread_locations l) (λ (e : ℕ × ℕ). Fenced e.0 e.1) (λ e. view_place l e.0 e.1) (length-view_list l (λ t x. Fenced t x))
+    (λ i a h. let p = of_views l (λ t x. Fenced t x) i a h in ((p.t, p.x), record { is_atom = (p.is_thread, p.x_below); at = refl }, p.place, p.is))
 
 -- The kinds up to one of them, and what stands there in the list of all.
 abbrev upto_scalar : Sizes → List ViewAtom

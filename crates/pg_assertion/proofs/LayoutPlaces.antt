@@ -121,17 +121,19 @@ pub record InGrid {A : Type 0} (g : ℕ → ℕ → A) (from rows columns i : �
 
 pub of_grid : {A : Type 0} (g : ℕ → ℕ → A) (from rows columns i : ℕ) (e : A)
     → slice_get (grid g from rows columns) i ≡ Some e → InGrid g from rows columns i e
-of_grid g from rows columns i e h =
-    let p = of_rows (λ k. map (λ c. g k c) (range_with_len 0 columns)) columns from rows i e (λ k. length-row (λ c. g k c) 0 columns) h in
-    let q = of_row (λ c. g (from + p.row) c) 0 columns p.column e p.stands in
-    record {
-      row = p.row;
-      column = p.column;
-      row_below = p.row_below;
-      column_below = q.0;
-      place = p.place;
-      is = ap (λ c. g (from + p.row) c) (omega arith) ∙ q.1;
-    }
+of_grid g from rows columns i e h = by (of_rows (λ k. map (λ c. g k c) (range_with_len 0 columns)) columns from rows i e (λ k. length-row (λ c. g k c) 0 columns) h)
+  where
+    by : InRows (λ k. map (λ c. g k c) (range_with_len 0 columns)) columns from rows i e → InGrid g from rows columns i e
+    by p =
+        let q = of_row (λ c. g (from + p.row) c) 0 columns p.column e p.stands in
+        record {
+          row = p.row;
+          column = p.column;
+          row_below = p.row_below;
+          column_below = q.0;
+          place = p.place;
+          is = ap (λ c. g (from + p.row) c) (omega arith) ∙ q.1;
+        }
 
 -- Rows of rows are rows: the row of a row has its place in the grid of both.
 pub nested_place : (a b d w j : ℕ) → a * (w * d) + (b * w + j) ≡ (a * d + b) * w + j

@@ -2,7 +2,7 @@
 //! thread, from 1; `k`, `v` and `w` are values. The letter in front of each is the one of its spelling.
 
 /// An atom of an assertion, about one state of the machine.
-#[derive(Clone, Copy, Debug, PartialEq, Eq)]
+#[derive(Clone, Copy)]
 pub enum ViewAtom {
     /// `r = k`: the scalar is `k`.
     Scalar { r: u8, k: u8 },
@@ -26,7 +26,7 @@ pub enum ViewAtom {
 
 /// An atom of an assertion as a text has it: its values and threads are any numbers, and may be none of the
 /// outline's.
-#[derive(Clone, Copy, Debug, PartialEq, Eq)]
+#[derive(Clone, Copy)]
 pub enum RawAtom {
     Scalar {
         r: u8,
@@ -72,7 +72,7 @@ pub enum RawAtom {
 }
 
 /// An atom of a crash formula, about a memory that a crash leaves.
-#[derive(Clone, Copy, Debug, PartialEq, Eq)]
+#[derive(Clone, Copy)]
 pub enum CrashAtom {
     /// `r = k`: the scalar is `k` at the crash.
     Scalar { r: u8, k: u32 },

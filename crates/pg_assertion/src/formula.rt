@@ -7,7 +7,7 @@ use sqlite_items::Boxed;
 use std::alloc::{AllocError, Global};
 
 /// A formula. Contracts see it as the data of `specs/Formula.antt`, by `plain`.
-#[derive(Debug, Drop)]
+#[derive(Drop)]
 pub enum Formula<T> {
     True,
     False,
@@ -30,21 +30,24 @@ impl<T: Drop> Formula<T> {
     pub fn and(alloc: Global, f: Formula<T>, g: Formula<T>) -> Result<Formula<T>, AllocError>
         ensures { IfOk result (λ h. plain h ≡ both (plain f) (plain g)) }
     {
-        Ok(Formula::And(Boxed::new(alloc, f)?, Boxed::new(alloc, g)?))
+        let (f, g) = boxed(alloc, f, g)?;
+        Ok(Formula::And(f, g))
     }
 
     /// `f | g`.
     pub fn or(alloc: Global, f: Formula<T>, g: Formula<T>) -> Result<Formula<T>, AllocError>
         ensures { IfOk result (λ h. plain h ≡ either (plain f) (plain g)) }
     {
-        Ok(Formula::Or(Boxed::new(alloc, f)?, Boxed::new(alloc, g)?))
+        let (f, g) = boxed(alloc, f, g)?;
+        Ok(Formula::Or(f, g))
     }
 
     /// `f -> g`.
     pub fn implies(alloc: Global, f: Formula<T>, g: Formula<T>) -> Result<Formula<T>, AllocError>
         ensures { IfOk result (λ h. plain h ≡ implies (plain f) (plain g)) }
     {
-        Ok(Formula::Implies(Boxed::new(alloc, f)?, Boxed::new(alloc, g)?))
+        let (f, g) = boxed(alloc, f, g)?;
+        Ok(Formula::Implies(f, g))
     }
 }
 
@@ -62,4 +65,16 @@ impl<T> Formula<T> {
             }
         }
     }
+}
+
+/// Two formulas, each in a box.
+fn boxed<T: Drop>(
+    alloc: Global,
+    f: Formula<T>,
+    g: Formula<T>,
+) -> Result<(Boxed<Formula<T>>, Boxed<Formula<T>>), AllocError>
+    ensures { IfOk result (λ p. (p.0 ≡ f) × (p.1 ≡ g)) }
+{
+    let f = Boxed::new(alloc, f)?;
+    Ok((f, Boxed::new(alloc, g)?))
 }
