@@ -1,13 +1,12 @@
 -- The clauses, step by step.
-use Rattle.std.proofs.Common.{◌≡◌, ℕ, zero, suc, ◌+◌, ◌<◌, ◌≤◌, Bool, true, false, cond, ◌&&◌, nat_le, List, [], ◌∷◌, ◌++◌, length, map, get_or, drop, take, Option, Some, None, option_map, slice_get, Result, IfSome, refl, sym, ap, subst, ◌∙◌, inl, inr, ◌⊎◌, arith}
+use Rattle.std.proofs.Common.{◌≡◌, ℕ, zero, suc, ◌+◌, ◌<◌, ◌≤◌, Bool, true, false, cond, ◌&&◌, nat_le, List, [], ◌∷◌, ◌++◌, length, map, get_or, drop, take, Option, Some, None, option_map, slice_get, Result, Ok, Err, IfSome, refl, sym, ap, subst, ◌∙◌, inl, inr, ◌⊎◌, arith}
 use Rattle.std.specs.List.{All}
+use Rattle.std.specs.Result.{IsErrAnd}
 use Rattle.std.proofs.lemmas.Bool.{cond-true, cond-false, le-leb, lt-leb}
 use Rattle.std.proofs.lemmas.List.Elements.{All-head, All-tail}
 use Rattle.pg_program.specs.declared.syntax.Stmt.{Stmt}
 use Rattle.pg_program.specs.declared.point.PointId.{PointId}
 use Rattle.pg_program.specs.declared.fault.ProgramFault.{ProgramFault}
-use Rattle.pg_program.specs.declared.fault.ProgramFault.TheVariants.{DomainSize, UnknownThread, ForeignRegister, AuxInProgram, AuxTwice, ValueOutOfDomain, ExpressionNames, NoMemory}
-use Rattle.std.specs.Prelude.{string_bytes}
 use Rattle.pg_program.specs.declared.name_table.NameKind.{NameKind}
 use Rattle.pg_program.specs.declared.name_table.NameKind.TheVariants as kind
 use Rattle.pg_program.specs.declared.name_table.ScalarKind.{ScalarKind}
@@ -15,7 +14,7 @@ use Rattle.pg_program.specs.declared.name_table.ScalarKind.TheVariants as scalar
 use Rattle.pg_program.specs.NameTable.{NameTable, kind_of}
 use Rattle.pg_program.specs.Block.{block}
 use Rattle.pg_program.specs.Graph.{statements}
-use Rattle.pg_program.specs.Fault.{Fault, told, first_of, unknown_owner, first_outside, in_thread, in_threads, repeated, different, is_in, is_auxiliary, is_auxiliary_kind, domain_size, unknown_thread, foreign_register, aux_in_program, aux_twice, value_out_of_domain, expression_names}
+use Rattle.pg_program.specs.Fault.{Fault, told, first_of, unknown_owner, first_outside, in_thread, in_threads, repeated, different, is_in, is_auxiliary, is_auxiliary_kind}
 use Rattle.pg_program.specs.Outcome.{Finds}
 
 -- ---- one clause after another
@@ -32,6 +31,11 @@ passes f rest e none h = subst (λ (x : Option Fault). IfSome (told e) (λ g. fi
 
 pub passes_on : (f rest : Option Fault) (r : Result (Unit {0}) ProgramFault) → f ≡ None → Finds rest r → Finds (first_of f rest) r
 passes_on f rest r none h = subst (λ (x : Option Fault). Finds (first_of x rest) r) (sym none) h
+
+-- what a clause refuses is refused, whatever comes after it
+pub refuses : {T : Type 0} (f rest : Option Fault) (r : Result T ProgramFault) (e : ProgramFault) → IsErrAnd r (λ y. y ≡ e) → IfSome (told e) (λ g. f ≡ Some g) → Finds (first_of f rest) r
+refuses f rest (Ok x) e is h = absurd is
+refuses f rest (Err y) e is h = stops f rest y (subst (λ (z : ProgramFault). IfSome (told z) (λ g. f ≡ Some g)) (sym is) h)
 
 -- ---- items of lists
 

@@ -1,8 +1,10 @@
 -- The statements of a block by their places, and the steps from its points.
-use Rattle.std.proofs.Common.{◌≡◌, ℕ, zero, suc, ◌+◌, ◌-◌, ◌<◌, ◌≤◌, List, [], ◌∷◌, ◌++◌, length, Some, slice_get, get_or, ap, refl, ◌∙◌, length-append, arith}
+use Rattle.std.proofs.Common.{◌≡◌, Bool, true, false, ℕ, zero, suc, ◌+◌, ◌-◌, ◌<◌, ◌≤◌, List, [], ◌∷◌, ◌++◌, length, map, Some, slice_get, get_or, ap, refl, ◌∙◌, length-append, arith, Result, OnOk}
 use Rattle.pg_program.specs.declared.syntax.Stmt.{Stmt}
+use Rattle.pg_program.specs.declared.point.Step.{Step}
 use Rattle.pg_program.specs.Block.{Block, done, node}
-use Rattle.pg_program.specs.Graph.{size, statements, thread_steps, graphs}
+use Rattle.pg_program.specs.Graph.{size, statements, steps, own_steps, into, exit_of, is_loop, is_test, thread_steps, graphs}
+use Rattle.pg_program.proofs.AppendLemmas.{append_none, append_both, append_three}
 
 -- an item of two lists is one of the first or one of the second
 pub slice_get-front : {X : Type 0} (xs ys : List X) (i : ℕ) → i < length xs → slice_get (xs ++ ys) i ≡ slice_get xs i
@@ -55,3 +57,54 @@ graphs-at t (ss ∷ threads) (suc i) lt =
 pub graphs-of : (threads : List (List Stmt)) (t : ℕ) → 1 ≤ t → t ≤ length threads → get_or (graphs 1 threads) (t - 1) [] ≡ thread_steps t (get_or threads (t - 1) [])
 graphs-of threads t low high =
     graphs-at 1 threads (t - 1) (omega arith) ∙ ap (λ n. thread_steps n (get_or threads (t - 1) [])) (let q : 1 + (t - 1) ≡ t = omega arith in q)
+
+-- ---- a block is linked part by part
+
+module _ (first t : ℕ) (s : Stmt) (a b rest whole : Block) where
+  sized : whole ≡ node s a b rest → size whole ≡ 1 + size a + size b + size rest
+  sized is = ap size is ∙ (omega arith)
+
+  pub first_fits : whole ≡ node s a b rest → size whole ≡ t → first + size whole < 256 → (size a < t) × (first + 1 + size a < 256)
+  first_fits is measure low = let n = sized is in (omega arith, omega arith)
+
+  pub second_fits : (n : ℕ) → whole ≡ node s a b rest → size whole ≡ t → first + size whole < 256 → n ≡ size a → (size b < t) × (first + 1 + n + size b < 256)
+  second_fits n is measure low e = let k = sized is in (omega arith, omega arith)
+
+  pub rest_fits : (n m : ℕ) → whole ≡ node s a b rest → size whole ≡ t → first + size whole < 256 → n ≡ size a → m ≡ size b
+      → (size rest < t) × (first + 1 + n + m + size rest < 256)
+  rest_fits n m is measure low e f = let k = sized is in (omega arith, omega arith)
+
+pub back_to_loop : (loop answer : Bool) (k next back : ℕ) → back ≡ k → answer ≡ true → answer ≡ loop → back ≡ exit_of loop k next
+back_to_loop true answer k next back is h e = is
+back_to_loop false answer k next back is h e = cc
+
+pub back_to_next : (loop answer : Bool) (k next back : ℕ) → back ≡ next → answer ≡ false → answer ≡ loop → back ≡ exit_of loop k next
+back_to_next true answer k next back is h e = cc
+back_to_next false answer k next back is h e = is
+
+pub links_none : (old : List (List Step)) (t first exit : ℕ) (whole : Block) → whole ≡ done → old ≡ old ++ steps t first exit whole
+links_none old t first exit whole is = append_none old (steps t first exit whole) (ap (steps t first exit) is)
+
+-- the own steps of the first statement, and then those of the three blocks
+pub links_all : {T E : Type 0} (r : Result T E) (old one two three new : List (List Step)) (own : List Step) (t first exit : ℕ) (s : Stmt) (a b rest whole : Block)
+    (n m next back left right : ℕ)
+    → whole ≡ node s a b rest → n ≡ size a → m ≡ size b → next ≡ into rest (first + 1 + n + m) exit → back ≡ exit_of (is_loop s) first next
+    → left ≡ into a (first + 1) back → right ≡ into b (first + 1 + n) next
+    → one ≡ old ++ own ∷ [] → own ≡ own_steps (is_test s) t first left right next
+    → two ≡ one ++ steps t (first + 1) back a → three ≡ two ++ steps t (first + 1 + n) next b
+    → OnOk r (new ≡ three ++ steps t (first + 1 + n + m) exit rest) → OnOk r (new ≡ old ++ steps t first exit whole)
+links_all r old one two three new own t first exit s a b rest whole n m next back left right is en em enext eback eleft eright eone eown etwo ethree enew =
+    append_three r old one two new (own ∷ []) (steps t (first + 1) back a) (steps t (first + 1 + n) next b ++ steps t (first + 1 + n + m) exit rest) (steps t first exit whole)
+    eone etwo all (append_both r two three new (steps t (first + 1 + n) next b) (steps t (first + 1 + n + m) exit rest)
+    (steps t (first + 1 + n) next b ++ steps t (first + 1 + n + m) exit rest) ethree refl enew)
+  where
+    all : steps t first exit whole ≡ own ∷ (steps t (first + 1) back a ++ (steps t (first + 1 + n) next b ++ steps t (first + 1 + n + m) exit rest))
+    all = ap (steps t first exit) is ∙ cc
+
+-- what a view shows of a list with one more item
+pub pushed : {A B : Type 0} (f : A → B) (xs ys : List A) (x : A) → ys ≡ xs ++ x ∷ [] → map f ys ≡ map f xs ++ f x ∷ []
+pushed f xs ys x is = ap (map f) is ∙ one xs
+  where
+    one : (zs : List _) → map f (zs ++ x ∷ []) ≡ map f zs ++ f x ∷ []
+    one [] = refl
+    one (z ∷ zs) = ap (λ l. f z ∷ l) (one zs)

@@ -1,3 +1,4 @@
+pub mod AppendLemmas
 pub mod ProgramLemmas
 pub mod StraightLemmas
 pub mod GraphLaws

@@ -12,33 +12,51 @@ use Rattle.pg_program.specs.Fault.{Fault, first_of, domain_size, unknown_thread,
 use Rattle.pg_program.specs.Program.{ProgramTable, IsProgram, IsStmt, IsThread, thread_of, stmt_at}
 use Rattle.pg_program.proofs.ClauseLemmas.{All-slice_get}
 
-none_of : (f g : Option Fault) → first_of f g ≡ None → (f ≡ None) × (g ≡ None)
+-- ---- the first of two faults
+
+pub none_of : (f g : Option Fault) → first_of f g ≡ None → (f ≡ None) × (g ≡ None)
 none_of None g h = (refl, h)
 none_of (Some x) g h = cc
+
+pub both_none : (f g : Option Fault) → f ≡ None → g ≡ None → first_of f g ≡ None
+both_none f g h k = ap (λ (o : Option Fault). first_of o g) h ∙ k
+
+-- ---- the clauses
 
 -- each clause has no fault
 pub record Faultless (names : NameTable) (threads : List (List Stmt)) : Type 0 where
   pub domain : domain_fault names.domain ≡ None
-  pub initial : first_outside names.domain (initial names) ≡ None
-  pub numbers : in_threads (numbers_inside names) 1 threads ≡ None
+  pub owners : option_map unknown_thread (unknown_owner (length threads) names.scalars) ≡ None
+  pub own : in_threads (own_registers names) 1 threads ≡ None
+  pub bare : in_threads (no_auxiliaries names) 1 threads ≡ None
+  pub apart : in_threads (distinct_targets names) 1 threads ≡ None
+  pub initial : option_map value_out_of_domain (first_outside names.domain (initial names)) ≡ None
+  pub inside : in_threads (numbers_inside names) 1 threads ≡ None
+  pub few : in_threads (few_names names) 1 threads ≡ None
+
+each_none : (a b c d e f g h : Option Fault) → first_of a (first_of b (first_of c (first_of d (first_of e (first_of f (first_of g h)))))) ≡ None
+    → (a ≡ None) × (b ≡ None) × (c ≡ None) × (d ≡ None) × (e ≡ None) × (f ≡ None) × (g ≡ None) × (h ≡ None)
+each_none None None None None None None None h is = (refl, refl, refl, refl, refl, refl, refl, is)
+each_none (Some x) b c d e f g h is = cc
+each_none None (Some x) c d e f g h is = cc
+each_none None None (Some x) d e f g h is = cc
+each_none None None None (Some x) e f g h is = cc
+each_none None None None None (Some x) f g h is = cc
+each_none None None None None None (Some x) g h is = cc
+each_none None None None None None None (Some x) h is = cc
+
+-- a program without a first fault has none of any clause
+pub faultless : (names : NameTable) (threads : List (List Stmt)) → first_fault names threads ≡ None → Faultless names threads
+faultless names threads h =
+    let text : (PointId → Stmt → Option Fault) → Option Fault = λ C. in_threads C 1 threads in
+    let e = each_none (domain_fault names.domain) (option_map unknown_thread (unknown_owner (length threads) names.scalars)) (text (own_registers names))
+    (text (no_auxiliaries names)) (text (distinct_targets names)) (option_map value_out_of_domain (first_outside names.domain (initial names)))
+    (text (numbers_inside names)) (text (few_names names)) h in
+    record { domain = e.0; owners = e.1; own = e.2; bare = e.3; apart = e.4; initial = e.5; inside = e.6; few = e.7 }
 
 none_in : (o : Option ℕ) → option_map value_out_of_domain o ≡ None → o ≡ None
 none_in None h = refl
 none_in (Some v) h = cc
-
-pub faultless : (names : NameTable) (threads : List (List Stmt)) → first_fault names threads ≡ None → Faultless names threads
-faultless names threads h =
-    let text : (PointId → Stmt → Option Fault) → Option Fault = λ C. in_threads C 1 threads in
-    let inits = option_map value_out_of_domain (first_outside names.domain (initial names)) in
-    let last = first_of (text (numbers_inside names)) (text (few_names names)) in
-    let a = none_of (domain_fault names.domain) (first_of (option_map unknown_thread (unknown_owner (length threads) names.scalars)) (first_of (text (own_registers names)) (first_of (text (no_auxiliaries names)) (first_of (text (distinct_targets names)) (first_of inits last))))) h in
-    let b = none_of (option_map unknown_thread (unknown_owner (length threads) names.scalars)) (first_of (text (own_registers names)) (first_of (text (no_auxiliaries names)) (first_of (text (distinct_targets names)) (first_of inits last)))) a.1 in
-    let c = none_of (text (own_registers names)) (first_of (text (no_auxiliaries names)) (first_of (text (distinct_targets names)) (first_of inits last))) b.1 in
-    let d = none_of (text (no_auxiliaries names)) (first_of (text (distinct_targets names)) (first_of inits last)) c.1 in
-    let e = none_of (text (distinct_targets names)) (first_of inits last) d.1 in
-    let f = none_of inits last e.1 in
-    let g = none_of (text (numbers_inside names)) (text (few_names names)) f.1 in
-    record { domain = a.0; initial = none_in (first_outside names.domain (initial names)) f.0; numbers = g.0 }
 
 -- ---- values
 
@@ -62,7 +80,8 @@ has_values p h =
 
 -- each initial value is below the domain's size
 pub initial_inside : (p : ProgramTable) → IsProgram p → All (λ v. v < p.names.domain) (initial p.names)
-initial_inside p h = below_all p.names.domain (initial p.names) (faultless p.names p.threads h.faultless).initial
+initial_inside p h =
+    below_all p.names.domain (initial p.names) (none_in (first_outside p.names.domain (initial p.names)) (faultless p.names p.threads h.faultless).initial)
 
 -- ---- statements
 
@@ -91,7 +110,7 @@ at_stmt C t k (u ∷ ss) (suc i) s h at =
 pub numbers_of_stmt : (p : ProgramTable) → IsProgram p → (t k : ℕ) (s : Stmt) → 1 ≤ t → t ≤ length p.threads → stmt_at p t k ≡ Some s → All (λ v. v < p.names.domain) (numbers_of s)
 numbers_of_stmt p h t k s low high at =
     let C = numbers_inside p.names in
-    let thread = at_thread C 1 p.threads (t - 1) (faultless p.names p.threads h.faultless).numbers (omega arith) in
+    let thread = at_thread C 1 p.threads (t - 1) (faultless p.names p.threads h.faultless).inside (omega arith) in
     let here = at_stmt C (1 + (t - 1)) 1 (statements (block (thread_of p t))) (k - 1) s thread at in
     below_all p.names.domain (numbers_of s) (none_in (first_outside p.names.domain (numbers_of s)) here)
 

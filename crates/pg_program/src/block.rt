@@ -41,8 +41,9 @@ fn split(stmts: &[Stmt]) -> Option<(&Stmt, &[Stmt])>
     }
 }
 
-/// The block that a test comes to where it holds.
-fn first_within(stmt: &Stmt) -> &[Stmt]
+/// The first block within a statement: where its test leads if it holds. Only an `if` and a `while` have one that is
+/// not empty.
+pub fn first_within(stmt: &Stmt) -> &[Stmt]
     ensures { result.now ≡ first_of stmt.now }
 {
     match &stmt.act {
@@ -52,8 +53,9 @@ fn first_within(stmt: &Stmt) -> &[Stmt]
     }
 }
 
-/// The block that an `if` comes to where it does not hold.
-fn second_within(stmt: &Stmt) -> &[Stmt]
+/// The second block within a statement: where its test leads if it does not hold. Only an `if` has one that is not
+/// empty.
+pub fn second_within(stmt: &Stmt) -> &[Stmt]
     ensures { result.now ≡ second_of stmt.now }
 {
     match &stmt.act {

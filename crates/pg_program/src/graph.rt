@@ -21,7 +21,7 @@ use std::marker::Model;
 type Steps = SmallVec<Step, 2>;
 
 /// A well-formed program.
-#[derive(Debug, Drop)]
+#[derive(Drop)]
 pub struct Program {
     names: Names,
     threads: Vec<Vec<Stmt>>,
@@ -243,7 +243,7 @@ fn step(at: PointId, branch: Branch, target: u8) -> Step
 }
 
 /// Whether a statement is an `if` or a `while`.
-fn is_test(stmt: &Stmt) -> bool
+pub fn is_test(stmt: &Stmt) -> bool
     ensures { result ≡ is_test stmt.now }
 {
     matches!(stmt.act, Act::If { .. } | Act::While { .. })

@@ -18,9 +18,10 @@ mod point;
 mod syntax;
 mod words;
 
+pub use block::{first_within, second_within};
 pub use expr::{eval, holds_cond};
 pub use fault::ProgramFault;
-pub use graph::{Program, store_of};
+pub use graph::{Program, is_test, store_of};
 pub use name_table::{
     DeclareFault, MAX_LOCATIONS, MAX_SCALARS, NameKind, NameRef, Names, ScalarKind,
 };

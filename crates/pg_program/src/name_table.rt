@@ -16,7 +16,7 @@ pub const MAX_LOCATIONS: u8 = 6;
 pub const MAX_SCALARS: u8 = 16;
 
 /// What a declared name stands for.
-#[derive(Clone, Copy, Debug, PartialEq, Eq)]
+#[derive(Clone, Copy, PartialEq, Eq)]
 pub enum NameKind {
     /// A place in persistent memory, with its initial value.
     Location { init: u32 },
@@ -27,14 +27,14 @@ pub enum NameKind {
 }
 
 /// The place of a name among the locations, or among the scalars, from 0 in the order of declaration.
-#[derive(Clone, Copy, Debug, PartialEq, Eq)]
+#[derive(Clone, Copy, PartialEq, Eq)]
 pub enum NameRef {
     Location(u8),
     Scalar(u8),
 }
 
 /// What a scalar is: a register with its owning thread, or an auxiliary.
-#[derive(Clone, Copy, Debug, PartialEq, Eq)]
+#[derive(Clone, Copy, PartialEq, Eq)]
 pub enum ScalarKind {
     Register { owner: u32 },
     Auxiliary,
@@ -52,7 +52,7 @@ pub enum DeclareFault {
 }
 
 /// The declared names of a program, with the size of the domain of values.
-#[derive(Debug, Drop)]
+#[derive(Drop)]
 pub struct Names {
     alloc: Global,
     domain: u32,

@@ -5,7 +5,7 @@
 use sqlite_items::{Boxed, Items};
 
 /// An expression over scalars. Its arithmetic is modulo the domain's size.
-#[derive(Debug, Drop)]
+#[derive(Drop)]
 pub enum Expr {
     Value(u32),
     Scalar(u8),
@@ -15,7 +15,7 @@ pub enum Expr {
 }
 
 /// A test: that the two sides are equal, or that they differ.
-#[derive(Debug, Drop)]
+#[derive(Drop)]
 pub struct Cond {
     pub left: Expr,
     pub right: Expr,
@@ -23,7 +23,7 @@ pub struct Cond {
 }
 
 /// One assignment of the bracket that stands with a statement.
-#[derive(Debug, Drop)]
+#[derive(Drop)]
 pub struct AuxAssign {
     pub target: u8,
     pub expr: Expr,
@@ -31,7 +31,7 @@ pub struct AuxAssign {
 
 /// A statement, with the auxiliary assignments that take effect together with it.
 #[cycle(stmt)]
-#[derive(Debug, Drop)]
+#[derive(Drop)]
 pub struct Stmt {
     pub act: Act,
     pub aux: Items<AuxAssign>,
@@ -39,7 +39,7 @@ pub struct Stmt {
 
 /// What a statement does. The blocks of a branch or a loop are lists of statements.
 #[cycle(stmt)]
-#[derive(Debug, Drop)]
+#[derive(Drop)]
 pub enum Act {
     /// The expression's value goes to a scalar.
     Assign {
