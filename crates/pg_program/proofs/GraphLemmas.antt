@@ -64,15 +64,19 @@ module _ (first t : ℕ) (s : Stmt) (a b rest whole : Block) where
   sized : whole ≡ node s a b rest → size whole ≡ 1 + size a + size b + size rest
   sized is = ap size is ∙ (omega arith)
 
+  pub parts_fit : whole ≡ node s a b rest → first + size whole < 256 → first + (1 + size a + size b + size rest) < 256
+  parts_fit is low = let n = sized is in omega arith
+
   pub first_fits : whole ≡ node s a b rest → size whole ≡ t → first + size whole < 256 → (size a < t) × (first + 1 + size a < 256)
   first_fits is measure low = let n = sized is in (omega arith, omega arith)
 
-  pub second_fits : (n : ℕ) → whole ≡ node s a b rest → size whole ≡ t → first + size whole < 256 → n ≡ size a → (size b < t) × (first + 1 + n + size b < 256)
-  second_fits n is measure low e = let k = sized is in (omega arith, omega arith)
+  pub second_fits : (second : ℕ) → whole ≡ node s a b rest → size whole ≡ t → first + size whole < 256 → second ≡ first + 1 + size a
+      → (size b < t) × (second + size b < 256)
+  second_fits second is measure low e = let n = sized is in (omega arith, omega arith)
 
-  pub rest_fits : (n m : ℕ) → whole ≡ node s a b rest → size whole ≡ t → first + size whole < 256 → n ≡ size a → m ≡ size b
-      → (size rest < t) × (first + 1 + n + m + size rest < 256)
-  rest_fits n m is measure low e f = let k = sized is in (omega arith, omega arith)
+  pub rest_fits : (second later : ℕ) → whole ≡ node s a b rest → size whole ≡ t → first + size whole < 256 → second ≡ first + 1 + size a → later ≡ second + size b
+      → (size rest < t) × (later + size rest < 256)
+  rest_fits second later is measure low e f = let n = sized is in (omega arith, omega arith)
 
 pub back_to_loop : (loop answer : Bool) (k next back : ℕ) → back ≡ k → answer ≡ true → answer ≡ loop → back ≡ exit_of loop k next
 back_to_loop true answer k next back is h e = is
@@ -86,19 +90,21 @@ pub links_none : (old : List (List Step)) (t first exit : ℕ) (whole : Block) �
 links_none old t first exit whole is = append_none old (steps t first exit whole) (ap (steps t first exit) is)
 
 -- the own steps of the first statement, and then those of the three blocks
-pub links_all : {T E : Type 0} (r : Result T E) (old one two three new : List (List Step)) (own : List Step) (t first exit : ℕ) (s : Stmt) (a b rest whole : Block)
-    (n m next back left right : ℕ)
-    → whole ≡ node s a b rest → n ≡ size a → m ≡ size b → next ≡ into rest (first + 1 + n + m) exit → back ≡ exit_of (is_loop s) first next
-    → left ≡ into a (first + 1) back → right ≡ into b (first + 1 + n) next
-    → one ≡ old ++ own ∷ [] → own ≡ own_steps (is_test s) t first left right next
-    → two ≡ one ++ steps t (first + 1) back a → three ≡ two ++ steps t (first + 1 + n) next b
-    → OnOk r (new ≡ three ++ steps t (first + 1 + n + m) exit rest) → OnOk r (new ≡ old ++ steps t first exit whole)
-links_all r old one two three new own t first exit s a b rest whole n m next back left right is en em enext eback eleft eright eone eown etwo ethree enew =
-    append_three r old one two new (own ∷ []) (steps t (first + 1) back a) (steps t (first + 1 + n) next b ++ steps t (first + 1 + n + m) exit rest) (steps t first exit whole)
-    eone etwo all (append_both r two three new (steps t (first + 1 + n) next b) (steps t (first + 1 + n + m) exit rest)
-    (steps t (first + 1 + n) next b ++ steps t (first + 1 + n + m) exit rest) ethree refl enew)
+pub links_all : {T E : Type 0} (r : Result T E) (old one two three new : List (List Step)) (t first exit : ℕ) (s : Stmt) (a b rest whole : Block)
+    (second later next back left right : ℕ)
+    → whole ≡ node s a b rest → second ≡ first + 1 + size a → later ≡ second + size b → next ≡ into rest later exit → back ≡ exit_of (is_loop s) first next
+    → left ≡ into a (first + 1) back → right ≡ into b second next
+    → one ≡ old ++ own_steps (is_test s) t first left right next ∷ []
+    → two ≡ one ++ steps t (first + 1) back a → three ≡ two ++ steps t second next b
+    → OnOk r (new ≡ three ++ steps t later exit rest) → OnOk r (new ≡ old ++ steps t first exit whole)
+links_all r old one two three new t first exit s a b rest whole second later next back left right is es el en eb ey ez one_is two_is three_is new_is =
+    append_three r old one two new (own ∷ []) (steps t (first + 1) back a) (steps t second next b ++ steps t later exit rest) (steps t first exit whole)
+    one_is two_is all (append_both r two three new (steps t second next b) (steps t later exit rest) (steps t second next b ++ steps t later exit rest) three_is refl new_is)
   where
-    all : steps t first exit whole ≡ own ∷ (steps t (first + 1) back a ++ (steps t (first + 1 + n) next b ++ steps t (first + 1 + n + m) exit rest))
+    own : List Step
+    own = own_steps (is_test s) t first left right next
+
+    all : steps t first exit whole ≡ own ∷ (steps t (first + 1) back a ++ (steps t second next b ++ steps t later exit rest))
     all = ap (steps t first exit) is ∙ cc
 
 -- what a view shows of a list with one more item

@@ -5,9 +5,9 @@ ghost use Rattle.std.specs.Prelude.{◌≡◌, ℕ, ◌+◌, ◌++◌, ◌∷◌
 ghost use Rattle.std.specs.Option.{option_copied};
 ghost use Rattle.pg_program.specs.Straight.{store_of};
 ghost use Rattle.pg_program.specs.Block.{block};
-ghost use Rattle.pg_program.specs.Graph.{size, into, steps, own_steps, is_test, is_loop, graphs};
+ghost use Rattle.pg_program.specs.Graph.{size, into, exit_of, steps, own_steps, is_test, is_loop, thread_steps, graphs};
 
-use crate::block::{count, nth, opened};
+use crate::block::{Node, count, nth, opened};
 use crate::clause::check;
 use crate::fault::ProgramFault;
 use crate::name_table::Names;
@@ -160,11 +160,18 @@ fn linked(alloc: Global, threads: &[Vec<Stmt>]) -> Result<Vec<Vec<Steps>>, Alloc
     let mut graph = Vec::new(alloc);
     for stmts in threads {
         let thread = graph.len() as u8 + 1;
-        let mut steps = Vec::new(alloc);
-        let exit = count(stmts) + 1;
-        link(alloc, thread, 1, exit, stmts, &mut steps)?;
-        graph.push(steps)?;
+        graph.push(thread_steps(alloc, thread, stmts)?)?;
     }
+    Ok(graph)
+}
+
+/// The steps from each point of a thread.
+fn thread_steps(alloc: Global, thread: u8, stmts: &[Stmt]) -> Result<Vec<Steps>, AllocError>
+    requires { size (block stmts.now) < 32 }
+    ensures { IfOk result (λ g. map (λ s. s.items) g.items ≡ thread_steps thread stmts.now) }
+{
+    let mut graph = Vec::new(alloc);
+    link(alloc, thread, 1, count(stmts) + 1, stmts, &mut graph)?;
     Ok(graph)
 }
 
@@ -184,20 +191,69 @@ fn link(
         Some(node) => node,
         None => return Ok(()),
     };
+    let to = leads(&node, first, exit);
+    let at = PointId {
+        thread,
+        point: first,
+    };
+    push_steps(alloc, node.stmt, at, to.yes, to.no, to.next, graph)?;
+    link(alloc, thread, first + 1, to.back, node.first, graph)?;
+    link(alloc, thread, to.second, to.next, node.second, graph)?;
+    link(alloc, thread, to.later, exit, node.rest, graph)
+}
+
+/// Where the second block within a block's first statement begins, and where the rest of the block does; then what is
+/// next after the statement, where control goes from the end of its first block, and where its test leads.
+#[derive(Clone, Copy)]
+struct Targets {
+    second: u8,
+    later: u8,
+    next: u8,
+    back: u8,
+    yes: u8,
+    no: u8,
+}
+
+/// Where a block leads that begins at point `first`, and from whose end control goes to point `exit`.
+fn leads(node: &Node<'_>, first: u8, exit: u8) -> Targets
+    requires { first + (1 + size (block node.now.first.now) + size (block node.now.second.now) + size (block node.now.rest.now)) < 256 }
+    ensures second { result.second ≡ first + 1 + size (block node.now.first.now) }
+    ensures later { result.later ≡ result.second + size (block node.now.second.now) }
+    ensures next { result.next ≡ into (block node.now.rest.now) result.later exit }
+    ensures back { result.back ≡ exit_of (is_loop node.now.stmt.now) first result.next }
+    ensures yes { result.yes ≡ into (block node.now.first.now) (first + 1) result.back }
+    ensures no { result.no ≡ into (block node.now.second.now) result.second result.next }
+{
     let second = first + 1 + count(node.first);
     let later = second + count(node.second);
     let next = entry(node.rest, later, exit);
     let back = if is_loop(node.stmt) { first } else { next };
     let yes = entry(node.first, first + 1, back);
     let no = entry(node.second, second, next);
-    let at = PointId {
-        thread,
-        point: first,
-    };
-    graph.push(own_steps(alloc, node.stmt, at, yes, no, next)?)?;
-    link(alloc, thread, first + 1, back, node.first, graph)?;
-    link(alloc, thread, second, next, node.second, graph)?;
-    link(alloc, thread, later, exit, node.rest, graph)
+    Targets {
+        second,
+        later,
+        next,
+        back,
+        yes,
+        no,
+    }
+}
+
+/// Appends the steps of a statement.
+fn push_steps(
+    alloc: Global,
+    stmt: &Stmt,
+    at: PointId,
+    yes: u8,
+    no: u8,
+    next: u8,
+    graph: &mut Vec<Steps>,
+) -> Result<(), AllocError>
+    ensures { OnOk result (map (λ s. s.items) graph.new.items ≡ map (λ s. s.items) graph.old.items ++ own_steps (is_test stmt.now) at.thread at.point yes no next ∷ []) }
+{
+    graph.push(own_steps(alloc, stmt, at, yes, no, next)?)?;
+    Ok(())
 }
 
 /// The point that control comes to with a block: the block's first one, or, where it is empty, the one behind it.
