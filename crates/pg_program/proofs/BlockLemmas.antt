@@ -4,7 +4,7 @@ use Rattle.pg_program.specs.declared.syntax.Stmt.{Stmt, out-Stmt, fold-Stmt}
 use Rattle.pg_program.specs.declared.syntax.Act.{Act, out-Act, fold-Act, roll-Act}
 use Rattle.pg_program.specs.declared.syntax.Act.TheOpen.{Act-F, Stmt-F, Assign, Store, Load, Cas, Mfence, Sfence, Flush, Flushopt, If, While}
 use Rattle.pg_program.specs.declared.syntax.Act.TheFolds.{map-Act, ind-Stmt, fold-roll-Act, fold-roll-Stmt, fold_out-Act, fold_out-Stmt}
-use Rattle.pg_program.specs.Block.{Block, node, BlocksNest, ActBlocks, StmtBlocks, act_step, stmt_step, joined, blocks_of, block, first_in, second_in, first_of, second_of}
+use Rattle.pg_program.specs.Block.{Block, node, BlocksNest, ActBlocks, StmtBlocks, act_step, stmt_step, joined, blocks_of, block, first_in, second_in, first_list, second_list}
 
 abbrev act_of : Act → ActBlocks
 act_of = fold-Act ActBlocks StmtBlocks act_step stmt_step
@@ -82,7 +82,7 @@ second_block (Flushopt x) = refl
 second_block (If test a b) = joined_block b
 second_block (While test a) = refl
 
-pub blocks-are : (s : Stmt) → blocks_of s ≡ (block (first_of s), block (second_of s))
+pub blocks-are : (s : Stmt) → blocks_of s ≡ (block (first_list s), block (second_list s))
 blocks-are s =
     let opened = out-Act (out-Stmt s).act in
     ap (λ (e : StmtBlocks). e.1) (fold_out-Stmt ActBlocks StmtBlocks act_step stmt_step s)
@@ -93,6 +93,6 @@ pub block-nests : BlocksNest
 block-nests s ss = ap (λ (w : Block × Block). node s w.0 w.1 (block ss)) (blocks-are s)
 
 -- the same, as the code finds the parts
-pub split-block : (ss a b rest : List Stmt) (s : Stmt) → ss ≡ s ∷ rest → a ≡ first_of s → b ≡ second_of s → block ss ≡ node s (block a) (block b) (block rest)
+pub split-block : (ss a b rest : List Stmt) (s : Stmt) → ss ≡ s ∷ rest → a ≡ first_list s → b ≡ second_list s → block ss ≡ node s (block a) (block b) (block rest)
 split-block ss a b rest s is first second =
     ap block is ∙ (block-nests s rest ∙ ap₂ (λ (l m : List Stmt). node s (block l) (block m) (block rest)) (sym first) (sym second))

@@ -11,31 +11,32 @@ use Rattle.pg_program.specs.declared.name_table.NameKind.{NameKind}
 use Rattle.pg_program.specs.declared.name_table.NameKind.TheVariants as kind
 use Rattle.pg_program.specs.declared.name_table.ScalarKind.{ScalarKind}
 use Rattle.pg_program.specs.declared.name_table.ScalarKind.TheVariants as scalar
-use Rattle.pg_program.specs.NameTable.{NameTable, kind_of}
+use Rattle.pg_program.specs.NameTable.{NameTable, kind_of, is_auxiliary, is_auxiliary_kind}
 use Rattle.pg_program.specs.Block.{block}
 use Rattle.pg_program.specs.Graph.{statements}
-use Rattle.pg_program.specs.Fault.{Fault, told, first_of, unknown_owner, first_outside, in_thread, in_threads, repeated, different, is_in, is_auxiliary, is_auxiliary_kind}
+use Rattle.pg_program.specs.Fault.{Fault, plain_fault, first_of, unknown_owner, first_outside, in_thread, in_threads}
+use Rattle.pg_program.specs.Words.{repeated, different, is_in}
 use Rattle.pg_program.specs.Outcome.{Finds}
 
 -- ---- one clause after another
 
-pub stops : (f rest : Option Fault) (e : ProgramFault) → IfSome (told e) (λ g. f ≡ Some g) → IfSome (told e) (λ g. first_of f rest ≡ Some g)
-stops f rest e h = by (told e) h
+pub stops : (f rest : Option Fault) (e : ProgramFault) → IfSome (plain_fault e) (λ g. f ≡ Some g) → IfSome (plain_fault e) (λ g. first_of f rest ≡ Some g)
+stops f rest e h = by (plain_fault e) h
   where
     by : (o : Option Fault) → IfSome o (λ g. f ≡ Some g) → IfSome o (λ g. first_of f rest ≡ Some g)
     by None k = k
     by (Some g) k = ap (λ x. first_of x rest) k
 
-pub passes : (f rest : Option Fault) (e : ProgramFault) → f ≡ None → IfSome (told e) (λ g. rest ≡ Some g) → IfSome (told e) (λ g. first_of f rest ≡ Some g)
-passes f rest e none h = subst (λ (x : Option Fault). IfSome (told e) (λ g. first_of x rest ≡ Some g)) (sym none) h
+pub passes : (f rest : Option Fault) (e : ProgramFault) → f ≡ None → IfSome (plain_fault e) (λ g. rest ≡ Some g) → IfSome (plain_fault e) (λ g. first_of f rest ≡ Some g)
+passes f rest e none h = subst (λ (x : Option Fault). IfSome (plain_fault e) (λ g. first_of x rest ≡ Some g)) (sym none) h
 
 pub passes_on : (f rest : Option Fault) (r : Result (Unit {0}) ProgramFault) → f ≡ None → Finds rest r → Finds (first_of f rest) r
 passes_on f rest r none h = subst (λ (x : Option Fault). Finds (first_of x rest) r) (sym none) h
 
 -- what a clause refuses is refused, whatever comes after it
-pub refuses : {T : Type 0} (f rest : Option Fault) (r : Result T ProgramFault) (e : ProgramFault) → IsErrAnd r (λ y. y ≡ e) → IfSome (told e) (λ g. f ≡ Some g) → Finds (first_of f rest) r
+pub refuses : {T : Type 0} (f rest : Option Fault) (r : Result T ProgramFault) (e : ProgramFault) → IsErrAnd r (λ y. y ≡ e) → IfSome (plain_fault e) (λ g. f ≡ Some g) → Finds (first_of f rest) r
 refuses f rest (Ok x) e is h = absurd is
-refuses f rest (Err y) e is h = stops f rest y (subst (λ (z : ProgramFault). IfSome (told z) (λ g. f ≡ Some g)) (sym is) h)
+refuses f rest (Err y) e is h = stops f rest y (subst (λ (z : ProgramFault). IfSome (plain_fault z) (λ g. f ≡ Some g)) (sym is) h)
 
 -- ---- items of lists
 
@@ -52,7 +53,7 @@ length_viewed f (t ∷ ts) = ap suc (length_viewed f ts)
 pub All-viewed : {A B : Type 0} (P : B → Type 0) (f : A → B) (ts : List A) (k : ℕ) (t : A) → k < length ts → t ≡ get_or ts k t → All P (map f ts) → P (f t)
 All-viewed P f ts k t lt h all = subst P (sym (item_viewed f ts k t h)) (all k (f t) (omega (arith, lt, length_viewed f ts)))
 
--- a place of a list, and the list behind it
+-- a place of a list, and the list after it
 pub dropped : {X : Type 0} (xs : List X) (i : ℕ) (x : X) → slice_get xs i ≡ Some x → drop i xs ≡ x ∷ drop (i + 1) xs
 dropped [] i x h = cc
 dropped (y ∷ xs) zero x h = let same : y ≡ x = cc in ap (λ (z : _). z ∷ xs) same
@@ -172,7 +173,7 @@ drop-none_more (x ∷ xs) (suc i) h = ap (λ n. drop n (x ∷ xs)) (let q : suc 
 pub in_thread-none : (C : PointId → Stmt → Option Fault) (t k : ℕ) (ss : List Stmt) (i : ℕ) → slice_get ss i ≡ None → in_thread C t k (drop i ss) ≡ in_thread C t (k + 1) (drop (i + 1) ss)
 in_thread-none C t k ss i h = ap (in_thread C t k) (drop-none ss i h) ∙ sym (ap (in_thread C t (k + 1)) (drop-none_more ss i h))
 
--- behind the last item there is none
+-- after the last item there is none
 pub drop-all : {X : Type 0} (xs : List X) (i : ℕ) → length xs ≤ i → drop i xs ≡ []
 drop-all [] zero le = refl
 drop-all [] (suc i) le = refl

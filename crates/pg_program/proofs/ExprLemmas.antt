@@ -8,7 +8,7 @@ use Rattle.pg_program.specs.declared.syntax.Expr.TheVariants.{Value, Scalar, Add
 use Rattle.pg_program.specs.declared.syntax.Stmt.{Stmt, out-Stmt}
 use Rattle.pg_program.specs.declared.syntax.Act.{Act, out-Act}
 use Rattle.pg_program.specs.declared.syntax.Act.TheOpen.{Act-F}
-use Rattle.pg_program.specs.Fault.{outside, outside_in, numbers_in}
+use Rattle.pg_program.specs.Words.{outside, outside_in, numbers_in}
 use Rattle.pg_program.specs.Expr.{reads, reads_step, numbers, numbers_step}
 
 -- what holds of each item of two lists holds of each item of either

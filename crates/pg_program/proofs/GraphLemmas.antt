@@ -12,10 +12,10 @@ slice_get-front [] ys i lt = absurd (omega arith)
 slice_get-front (x ∷ xs) ys zero lt = refl
 slice_get-front (x ∷ xs) ys (suc i) lt = slice_get-front xs ys i (omega arith)
 
-pub slice_get-behind : {X : Type 0} (xs ys : List X) (i k : ℕ) → i ≡ length xs + k → slice_get (xs ++ ys) i ≡ slice_get ys k
-slice_get-behind [] ys i k e = ap (slice_get ys) (let q : i ≡ k = omega arith in q)
-slice_get-behind (x ∷ xs) ys zero k e = absurd (omega arith)
-slice_get-behind (x ∷ xs) ys (suc i) k e = slice_get-behind xs ys i k (omega arith)
+pub slice_get-after : {X : Type 0} (xs ys : List X) (i k : ℕ) → i ≡ length xs + k → slice_get (xs ++ ys) i ≡ slice_get ys k
+slice_get-after [] ys i k e = ap (slice_get ys) (let q : i ≡ k = omega arith in q)
+slice_get-after (x ∷ xs) ys zero k e = absurd (omega arith)
+slice_get-after (x ∷ xs) ys (suc i) k e = slice_get-after xs ys i k (omega arith)
 
 -- a block has as many statements as its size says
 pub length-statements : (b : Block) → length (statements b) ≡ size b
@@ -35,17 +35,17 @@ module _ (s : Stmt) (a b rest : Block) where
       ap (slice_get (statements (node s a b rest))) e
       ∙ slice_get-front (statements a) (statements b ++ statements rest) i (omega (arith, length-statements a, lt))
 
-  behind-first : (k i : ℕ) → k ≡ suc (size a + i) → slice_get (statements (node s a b rest)) k ≡ slice_get (statements b ++ statements rest) i
-  behind-first k i e =
+  after-first : (k i : ℕ) → k ≡ suc (size a + i) → slice_get (statements (node s a b rest)) k ≡ slice_get (statements b ++ statements rest) i
+  after-first k i e =
       ap (slice_get (statements (node s a b rest))) e
-      ∙ slice_get-behind (statements a) (statements b ++ statements rest) (size a + i) i (omega (arith, length-statements a))
+      ∙ slice_get-after (statements a) (statements b ++ statements rest) (size a + i) i (omega (arith, length-statements a))
 
   pub within-second : (k i : ℕ) → k ≡ suc (size a + i) → i < size b → slice_get (statements (node s a b rest)) k ≡ slice_get (statements b) i
-  within-second k i e lt = behind-first k i e ∙ slice_get-front (statements b) (statements rest) i (omega (arith, length-statements b, lt))
+  within-second k i e lt = after-first k i e ∙ slice_get-front (statements b) (statements rest) i (omega (arith, length-statements b, lt))
 
-  pub behind-both : (k i : ℕ) → k ≡ suc (size a + (size b + i)) → slice_get (statements (node s a b rest)) k ≡ slice_get (statements rest) i
-  behind-both k i e =
-      behind-first k (size b + i) e ∙ slice_get-behind (statements b) (statements rest) (size b + i) i (omega (arith, length-statements b))
+  pub after-both : (k i : ℕ) → k ≡ suc (size a + (size b + i)) → slice_get (statements (node s a b rest)) k ≡ slice_get (statements rest) i
+  after-both k i e =
+      after-first k (size b + i) e ∙ slice_get-after (statements b) (statements rest) (size b + i) i (omega (arith, length-statements b))
 
 -- each thread has its steps
 pub graphs-at : (t : ℕ) (threads : List (List Stmt)) (i : ℕ) → i < length threads → get_or (graphs t threads) i [] ≡ thread_steps (t + i) (get_or threads i [])

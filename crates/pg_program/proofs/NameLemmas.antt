@@ -63,7 +63,7 @@ place_in-kept name [] fs i h = cc
 place_in-kept name (e ∷ es) fs i h =
     kept_step (bytes_eq name e.0) (place_in name es) (place_in name (es ++ fs)) (λ j. place_in-kept name es fs j) i h
 
--- a new name stands behind all, and no other name is there
+-- a new name stands after all others, and no other name is there
 pub place_in-new : {V : Type 0} (name other : List ℕ) (v : V) (es : List (List ℕ × V)) → place_in name es ≡ None
     → place_in name (es ++ (other, v) ∷ []) ≡ cond (bytes_eq name other) (Some (length es)) None
 place_in-new name other v [] h = refl

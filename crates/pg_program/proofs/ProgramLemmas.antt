@@ -8,7 +8,8 @@ use Rattle.pg_program.specs.declared.point.PointId.{PointId}
 use Rattle.pg_program.specs.NameTable.{NameTable, initial}
 use Rattle.pg_program.specs.Block.{block}
 use Rattle.pg_program.specs.Graph.{statements}
-use Rattle.pg_program.specs.Fault.{Fault, first_of, domain_size, unknown_thread, value_out_of_domain, first_outside, domain_fault, unknown_owner, numbers_of, own_registers, no_auxiliaries, distinct_targets, numbers_inside, few_names, in_thread, in_threads, first_fault}
+use Rattle.pg_program.specs.Fault.{Fault, first_of, domain_size, unknown_thread, value_out_of_domain, first_outside, domain_fault, unknown_owner, own_registers, no_auxiliaries, distinct_targets, numbers_inside, few_names, in_thread, in_threads, first_fault}
+use Rattle.pg_program.specs.Words.{numbers_of}
 use Rattle.pg_program.specs.Program.{ProgramTable, IsProgram, IsStmt, IsThread, thread_of, stmt_at}
 use Rattle.pg_program.proofs.ClauseLemmas.{All-slice_get}
 

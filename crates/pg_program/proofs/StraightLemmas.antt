@@ -12,11 +12,12 @@ use Rattle.pg_program.specs.declared.syntax.Expr.TheFolds.{map-Expr}
 use Rattle.pg_program.specs.declared.point.PointId.{PointId}
 use Rattle.pg_program.specs.declared.point.Branch.TheVariants.{Plain}
 use Rattle.pg_program.specs.declared.point.Step.{Step}
-use Rattle.pg_program.specs.NameTable.{NameTable, initial}
-use Rattle.pg_program.specs.Block.{done, node, block, first_of as first_within, second_of as second_within, first_in, second_in}
+use Rattle.pg_program.specs.NameTable.{NameTable, initial, is_auxiliary, is_foreign, scalar_name}
+use Rattle.pg_program.specs.Block.{done, node, block, first_list as first_within, second_list as second_within, first_in, second_in}
 use Rattle.pg_program.specs.Graph.{size, statements, is_test, is_loop, is_test_in, is_loop_in, into, exit_of, own_steps, steps}
 use Rattle.pg_program.specs.Expr.{reads, reads_step, numbers, numbers_step}
-use Rattle.pg_program.specs.Fault.{Fault, value_out_of_domain, unknown_thread, first_of, first_outside, outside, outside_in, scalars_of, bracket_scalars, targets, numbers_of, numbers_in, bracket_numbers, groups, groups_in, locations_of, locations_in, own_registers, no_auxiliaries, distinct_targets, numbers_inside, few_names, in_thread, in_threads, first_fault, domain_fault, domain_size, is_domain, unknown_owner, is_auxiliary, is_foreign, scalar_name, repeated, is_wide, foreign_register, aux_in_program, aux_twice, expression_names}
+use Rattle.pg_program.specs.Fault.{Fault, value_out_of_domain, unknown_thread, first_of, first_outside, own_registers, no_auxiliaries, distinct_targets, numbers_inside, few_names, in_thread, in_threads, first_fault, domain_fault, domain_size, is_domain, unknown_owner, foreign_register, aux_in_program, aux_twice, expression_names}
+use Rattle.pg_program.specs.Words.{outside, outside_in, scalars_of, bracket_scalars, targets, numbers_of, numbers_in, bracket_numbers, groups, groups_in, locations_of, locations_in, repeated, is_wide}
 use Rattle.pg_program.specs.Program.{ProgramTable, IsStmt, IsThread, AreThreads, thread_of, steps_at}
 use Rattle.pg_program.specs.Straight.{store_of, store_in, number_in, without_bracket, stores_of, straight, straight_fault, stored}
 use Rattle.pg_program.proofs.BlockLemmas.{block-nests}

@@ -23,11 +23,11 @@ second_in (If test a b) = b
 second_in _ = []
 
 -- the first and the second list of statements within a statement
-abbrev pub first_of : Stmt → List Stmt
-first_of s = first_in (out-Act (out-Stmt s).act)
+abbrev pub first_list : Stmt → List Stmt
+first_list s = first_in (out-Act (out-Stmt s).act)
 
-abbrev pub second_of : Stmt → List Stmt
-second_of s = second_in (out-Act (out-Stmt s).act)
+abbrev pub second_list : Stmt → List Stmt
+second_list s = second_in (out-Act (out-Stmt s).act)
 
 -- A recursion on the nesting: each act, and each statement, beside its two blocks.
 abbrev pub ActBlocks : Type 0
@@ -56,4 +56,4 @@ block (s ∷ ss) = node s (blocks_of s).0 (blocks_of s).1 (block ss)
 
 -- a block that is not empty is its first statement, the blocks of the two lists within it, and the block of the others
 abbrev pub BlocksNest : Type 0
-BlocksNest = (s : Stmt) (ss : List Stmt) → block (s ∷ ss) ≡ node s (block (first_of s)) (block (second_of s)) (block ss)
+BlocksNest = (s : Stmt) (ss : List Stmt) → block (s ∷ ss) ≡ node s (block (first_list s)) (block (second_list s)) (block ss)

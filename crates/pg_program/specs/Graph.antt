@@ -52,8 +52,8 @@ exit_of true k next = k
 exit_of false k next = next
 
 -- The steps from each point of a block of thread t, in the order of the points. The block begins at point `first`, and
--- where it ends control goes to point `exit`. The block of a statement begins behind the statement, the second one
--- behind the first, and the rest of the block behind both.
+-- where it ends control goes to point `exit`. The first block within a statement begins after the statement, the second
+-- one after the first, and the rest of the block after both.
 abbrev pub steps : ℕ → ℕ → ℕ → Block → List (List Step)
 steps t first exit done = []
 steps t first exit (node s a b rest) =
@@ -78,13 +78,14 @@ abbrev pub graphs : ℕ → List (List Stmt) → List (List (List Step))
 graphs t [] = []
 graphs t (ss ∷ threads) = thread_steps t ss ∷ graphs (t + 1) threads
 
--- where the step of a branch leads, if there is one
+-- whether two branches are the same
 abbrev pub is_branch : Branch → Branch → Bool
 is_branch Plain Plain = true
 is_branch Yes Yes = true
 is_branch No No = true
 is_branch b c = false
 
+-- where the step of a branch leads, if there is one
 abbrev pub target_of : Branch → List Step → Option ℕ
 target_of b [] = None
 target_of b (s ∷ ss) = if is_branch b s.branch then Some s.target else target_of b ss

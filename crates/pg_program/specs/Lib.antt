@@ -1,7 +1,9 @@
+pub mod Limits
 pub mod NameTable
 pub mod Block
 pub mod Graph
 pub mod Expr
+pub mod Words
 pub mod Fault
 pub mod Clause
 pub mod Program

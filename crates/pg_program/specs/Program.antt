@@ -2,10 +2,12 @@
 use Rattle.std.specs.Prelude.{◌≡◌, ℕ, ◌+◌, ◌-◌, ◌<◌, ◌≤◌, true, List, [], length, All, Option, None, slice_get, slice_index_or}
 use Rattle.pg_program.specs.declared.syntax.Stmt.{Stmt, out-Stmt}
 use Rattle.pg_program.specs.declared.point.Step.{Step}
-use Rattle.pg_program.specs.NameTable.{NameTable}
+use Rattle.pg_program.specs.Limits.{most_threads, most_points}
+use Rattle.pg_program.specs.NameTable.{NameTable, is_auxiliary}
 use Rattle.pg_program.specs.Block.{block}
 use Rattle.pg_program.specs.Graph.{size, statements, thread_steps, is_test}
-use Rattle.pg_program.specs.Fault.{scalars_of, locations_of, targets, is_auxiliary, first_fault}
+use Rattle.pg_program.specs.Fault.{first_fault}
+use Rattle.pg_program.specs.Words.{scalars_of, locations_of, targets}
 
 -- the names, and the statements of each thread in the order of the text
 pub record ProgramTable : Type 0 where
@@ -20,18 +22,18 @@ pub record IsStmt (names : NameTable) (s : Stmt) : Type 0 where
   pub targets : All (λ r. is_auxiliary names r ≡ true) (targets s)
   pub bare : is_test s ≡ true → (out-Stmt s).aux ≡ []
 
--- a thread over names: at most 32 points, the end counted
+-- a thread over names, not too long: its points are one more than its statements
 pub record IsThread (names : NameTable) (ss : List Stmt) : Type 0 where
-  pub few : size (block ss) < 32
+  pub few : size (block ss) < most_points
   pub stmts : All (IsStmt names) (statements (block ss))
 
--- one to four threads over names
+-- threads over names, one at least and not too many
 pub record AreThreads (names : NameTable) (threads : List (List Stmt)) : Type 0 where
   pub some : 1 ≤ length threads
-  pub few : length threads ≤ 4
+  pub few : length threads ≤ most_threads
   pub each : All (IsThread names) threads
 
--- a program is one to four threads over its names, without a fault
+-- a program is threads over its names, without a fault
 pub record IsProgram (p : ProgramTable) : Type 0 where
   pub threads : AreThreads p.names p.threads
   pub faultless : first_fault p.names p.threads ≡ None

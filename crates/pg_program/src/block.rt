@@ -2,7 +2,7 @@
 
 ghost use Rattle.std.specs.Prelude.{◌≡◌, ◌∷◌, ◌<◌, [], MatchOption, slice_get};
 ghost use Rattle.std.specs.Option.{option_copied};
-ghost use Rattle.pg_program.specs.Block.{done, node, block, first_of, second_of};
+ghost use Rattle.pg_program.specs.Block.{done, node, block, first_list, second_list};
 ghost use Rattle.pg_program.specs.Graph.{size, statements};
 
 use crate::syntax::{Act, Stmt};
@@ -44,7 +44,7 @@ fn split(stmts: &[Stmt]) -> Option<(&Stmt, &[Stmt])>
 /// The first block within a statement: where its test leads if it holds. Only an `if` and a `while` have one that is
 /// not empty.
 pub fn first_within(stmt: &Stmt) -> &[Stmt]
-    ensures { result.now ≡ first_of stmt.now }
+    ensures { result.now ≡ first_list stmt.now }
 {
     match &stmt.act {
         Act::If { yes, .. } => yes.as_slice(),
@@ -56,7 +56,7 @@ pub fn first_within(stmt: &Stmt) -> &[Stmt]
 /// The second block within a statement: where its test leads if it does not hold. Only an `if` has one that is not
 /// empty.
 pub fn second_within(stmt: &Stmt) -> &[Stmt]
-    ensures { result.now ≡ second_of stmt.now }
+    ensures { result.now ≡ second_list stmt.now }
 {
     match &stmt.act {
         Act::If { no, .. } => no.as_slice(),
@@ -89,10 +89,10 @@ pub fn nth(stmts: &[Stmt], place: u8) -> Option<&Stmt>
     if within < first {
         return nth(node.first, within);
     }
-    let behind = within - first;
+    let after = within - first;
     let second = count(node.second);
-    if behind < second {
-        return nth(node.second, behind);
+    if after < second {
+        return nth(node.second, after);
     }
-    nth(node.rest, behind - second)
+    nth(node.rest, after - second)
 }

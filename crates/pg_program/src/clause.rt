@@ -2,11 +2,12 @@
 
 ghost use Rattle.std.specs.Prelude.{◌≡◌, ◌++◌, ◌<◌, [], length, map, All, OnOk, IfOk, IfSome, string_bytes, option_map};
 ghost use Rattle.std.specs.List.{find, list_any};
-ghost use Rattle.pg_program.specs.NameTable.{NameTable, initial};
+ghost use Rattle.pg_program.specs.NameTable.{NameTable, initial, is_foreign, is_auxiliary, scalar_name};
 ghost use Rattle.pg_program.specs.declared.point.PointId.{PointId};
 ghost use Rattle.pg_program.specs.Block.{block};
 ghost use Rattle.pg_program.specs.Graph.{size, statements};
-ghost use Rattle.pg_program.specs.Fault.{first_fault, in_thread, in_threads, domain_fault, unknown_owner, first_outside, own_registers, no_auxiliaries, distinct_targets, numbers_inside, few_names, is_foreign, is_auxiliary, scalar_name, repeated, different, scalars_of, outside, targets, numbers_of, groups, unknown_thread, value_out_of_domain};
+ghost use Rattle.pg_program.specs.Fault.{first_fault, in_thread, in_threads, domain_fault, unknown_owner, first_outside, own_registers, no_auxiliaries, distinct_targets, numbers_inside, few_names, unknown_thread, value_out_of_domain};
+ghost use Rattle.pg_program.specs.Words.{repeated, different, scalars_of, outside, targets, numbers_of, groups};
 ghost use Rattle.pg_program.specs.Clause.{clause_of};
 ghost use Rattle.pg_program.specs.Program.{AreThreads, IsThread, IsStmt};
 ghost use Rattle.pg_program.specs.Outcome.{Finds};

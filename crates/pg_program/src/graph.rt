@@ -3,6 +3,7 @@
 
 ghost use Rattle.std.specs.Prelude.{◌≡◌, ℕ, ◌+◌, ◌++◌, ◌∷◌, [], ◌<◌, ◌≤◌, List, length, map, slice_index_or, All, OnOk, IfOk};
 ghost use Rattle.std.specs.Option.{option_copied};
+ghost use Rattle.pg_program.specs.Limits.{most_threads, most_points};
 ghost use Rattle.pg_program.specs.Straight.{store_of};
 ghost use Rattle.pg_program.specs.Block.{block};
 ghost use Rattle.pg_program.specs.Graph.{size, into, exit_of, steps, own_steps, is_test, is_loop, thread_steps, graphs};
@@ -77,7 +78,7 @@ impl Program {
     /// The number of threads.
     pub fn threads(&self) -> u8
         ensures count { result ≡ length self.now.threads }
-        ensures few { result ≤ 4 }
+        ensures few { result ≤ most_threads }
     {
         self.threads.len() as u8
     }
@@ -86,7 +87,7 @@ impl Program {
     pub fn points(&self, thread: u8) -> u8
         requires { (1 ≤ thread) × (thread ≤ length self.now.threads) }
         ensures count { result ≡ points self.now thread }
-        ensures few { result ≤ 32 }
+        ensures few { result ≤ most_points }
     {
         count(self.thread(thread)) + 1
     }
@@ -117,7 +118,7 @@ impl Program {
     pub fn thread(&self, thread: u8) -> &[Stmt]
         requires { (1 ≤ thread) × (thread ≤ length self.now.threads) }
         ensures stmts { result.now ≡ thread_of self.now thread }
-        ensures short { size (block result.now) < 32 }
+        ensures short { size (block result.now) < most_points }
     {
         self.threads[usize::from(thread) - 1].as_slice()
     }
@@ -140,7 +141,7 @@ pub fn store_of(stmt: &Stmt) -> Option<(u8, u32)>
     }
 }
 
-/// The steps at a place of a thread, both from 0, and none behind its last statement.
+/// The steps at a place of a thread, both from 0, and none after its last statement.
 fn steps_of(graph: &[Vec<Steps>], thread: usize, place: usize) -> &[Step]
     requires { thread < length graph.now }
     ensures { result.now ≡ slice_index_or (slice_index_or (map (λ t. map (λ s. s.items) t.items) graph.now) thread []) place [] }
@@ -153,8 +154,8 @@ fn steps_of(graph: &[Vec<Steps>], thread: usize, place: usize) -> &[Step]
 
 /// The steps from each point of each thread.
 fn linked(alloc: Global, threads: &[Vec<Stmt>]) -> Result<Vec<Vec<Steps>>, AllocError>
-    requires few { length threads.now ≤ 4 }
-    requires short { All (λ ss. size (block ss) < 32) (map (λ t. t.items) threads.now) }
+    requires few { length threads.now ≤ most_threads }
+    requires short { All (λ ss. size (block ss) < most_points) (map (λ t. t.items) threads.now) }
     ensures { IfOk result (λ g. map (λ t. map (λ s. s.items) t.items) g.items ≡ graphs 1 (map (λ t. t.items) threads.now)) }
 {
     let mut graph = Vec::new(alloc);
@@ -167,7 +168,7 @@ fn linked(alloc: Global, threads: &[Vec<Stmt>]) -> Result<Vec<Vec<Steps>>, Alloc
 
 /// The steps from each point of a thread.
 fn thread_steps(alloc: Global, thread: u8, stmts: &[Stmt]) -> Result<Vec<Steps>, AllocError>
-    requires { size (block stmts.now) < 32 }
+    requires { size (block stmts.now) < most_points }
     ensures { IfOk result (λ g. map (λ s. s.items) g.items ≡ thread_steps thread stmts.now) }
 {
     let mut graph = Vec::new(alloc);
@@ -256,7 +257,7 @@ fn push_steps(
     Ok(())
 }
 
-/// The point that control comes to with a block: the block's first one, or, where it is empty, the one behind it.
+/// The point that control comes to with a block: the block's first one, or, where it is empty, the one after it.
 fn entry(stmts: &[Stmt], first: u8, exit: u8) -> u8
     ensures { result ≡ into (block stmts.now) first exit }
 {

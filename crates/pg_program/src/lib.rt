@@ -2,7 +2,7 @@
 //!
 //! What this crate promises the layers above: a table of names is two ordered lists, one of locations and one
 //! of scalars, in which no name stands twice, and `declare` and `find` are theirs; a program is built exactly of
-//! names and threads without a fault, and of others the first fault is told; a program that was built gives back
+//! names and threads without a fault, and for others the answer is the first fault; a program that was built gives back
 //! its names, the statement at each of its points, and the steps from it; and expressions and tests have their
 //! values modulo the size of the domain.
 #![tactic(auto)]

@@ -1,7 +1,7 @@
 //! The table of declared names: the domain's size, the locations and the scalars.
 
 ghost use Rattle.pg_program.specs.NameTable.{place_in, by_bytes};
-ghost use Rattle.pg_program.specs.declared.name_table.TheConstants.{MAX_LOCATIONS, MAX_SCALARS};
+ghost use Rattle.pg_program.specs.Limits.{most_locations, most_scalars};
 ghost use Rattle.std.specs.Prelude.{IsSome, ◌≡◌, ℕ, ◌+◌, ◌<◌, ◌≤◌, ◌↔◌, List, [], ◌∷◌, ◌++◌, length, string_bytes, IsTrue, IsErrOf, IfOk, OnOk, OnErr, Some, None, slice_get, option_map, true, false};
 
 use indexmap::IndexMap;
@@ -109,7 +109,7 @@ impl Names {
     /// What the name stands for, if it is declared.
     pub fn find(&self, name: &str) -> Option<NameRef>
         ensures place { result ≡ find name.now self.now }
-        ensures told_apart { IsNameTable self.now }
+        ensures distinct { IsNameTable self.now }
     {
         match index_of(&self.locations, name) {
             Some(x) => Some(NameRef::Location(x)),
@@ -172,8 +172,8 @@ impl Names {
     /// How many locations are declared.
     pub fn locations(&self) -> u8
         ensures count { result ≡ length self.now.locations }
-        ensures few { result ≤ MAX_LOCATIONS }
-        ensures told_apart { IsNameTable self.now }
+        ensures few { result ≤ most_locations }
+        ensures distinct { IsNameTable self.now }
     {
         self.locations.len() as u8
     }
@@ -181,7 +181,7 @@ impl Names {
     /// How many scalars are declared.
     pub fn scalars(&self) -> u8
         ensures count { result ≡ length self.now.scalars }
-        ensures few { result ≤ MAX_SCALARS }
+        ensures few { result ≤ most_scalars }
     {
         self.scalars.len() as u8
     }

@@ -4,7 +4,7 @@ ghost use Rattle.std.specs.Prelude.{◌≡◌, ◌++◌, length, map, OnOk, IfOk
 ghost use Rattle.std.specs.List.{list_any};
 ghost use Rattle.pg_program.specs.declared.syntax.Act.{out-Act};
 ghost use Rattle.pg_program.specs.Expr.{reads};
-ghost use Rattle.pg_program.specs.Fault.{outside, scalars_of, targets, numbers_of, numbers_in, bracket_scalars, bracket_numbers, groups, groups_in, different, is_in, is_wide};
+ghost use Rattle.pg_program.specs.Words.{outside, scalars_of, targets, numbers_of, numbers_in, bracket_scalars, bracket_numbers, groups, groups_in, different, is_in, is_wide};
 
 use crate::expr::{append_numbers, append_reads};
 use crate::syntax::{Act, AuxAssign, Cond, Expr, Stmt};

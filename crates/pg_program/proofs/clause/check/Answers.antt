@@ -1,7 +1,7 @@
 use Rattle.std.proofs.Common.{◌≡◌, sym, subst, ℕ, None, Option, Some, List, length, map, option_map, IfSome, Vec, Global}
 use Rattle.pg_program.specs.declared.syntax.Stmt.{Stmt}
 use Rattle.pg_program.specs.declared.name_table.ScalarKind.{ScalarKind}
-use Rattle.pg_program.specs.Fault.{Fault, told, domain_fault, unknown_owner, unknown_thread}
+use Rattle.pg_program.specs.Fault.{Fault, plain_fault, domain_fault, unknown_owner, unknown_thread}
 use Rattle.pg_program.proofs.ClauseLemmas.{passes_on, refuses, length_viewed}
 use Rattle.pg_program.proofs.clause.check.Goals as goal
 
@@ -12,12 +12,12 @@ viewed P threads scalars = subst (λ (n : ℕ). P (option_map unknown_thread (un
 
 pub returns-in_err-check_domain : goal.returns-in_err-check_domain
 returns-in_err-check_domain c =
-    refuses _ _ c.from_residual.result c.in_err-check_domain.field-0.0 c.from_residual.ensures.1 (subst (λ (d : ℕ). IfSome (told c.in_err-check_domain.field-0.0) (λ g. domain_fault d ≡ Some g)) c.domain.ensures c.in_err-check_domain.ensures)
+    refuses _ _ c.from_residual.result c.in_err-check_domain.field-0.0 c.from_residual.ensures.1 (subst (λ (d : ℕ). IfSome (plain_fault c.in_err-check_domain.field-0.0) (λ g. domain_fault d ≡ Some g)) c.domain.ensures c.in_err-check_domain.ensures)
 
 pub returns-in_err-check_owners : goal.returns-in_err-check_owners
 returns-in_err-check_owners c =
     passes_on _ _ _ (subst (λ (d : ℕ). domain_fault d ≡ None) c.domain.ensures c.in_ok-check_domain.ensures)
-    (refuses _ _ c.from_residual-in_err-check_owners.result c.in_err-check_owners.field-0.0 c.from_residual-in_err-check_owners.ensures.1 (viewed (λ (f : Option Fault). IfSome (told c.in_err-check_owners.field-0.0) (λ g. f ≡ Some g)) c.args.threads.now c.args.names.now.scalars c.in_err-check_owners.ensures))
+    (refuses _ _ c.from_residual-in_err-check_owners.result c.in_err-check_owners.field-0.0 c.from_residual-in_err-check_owners.ensures.1 (viewed (λ (f : Option Fault). IfSome (plain_fault c.in_err-check_owners.field-0.0) (λ g. f ≡ Some g)) c.args.threads.now c.args.names.now.scalars c.in_err-check_owners.ensures))
 
 pub returns-in_err-check_text : goal.returns-in_err-check_text
 returns-in_err-check_text c =

@@ -3,7 +3,7 @@ use Rattle.std.proofs.lemmas.Result.{err_from_is_err_and}
 use Rattle.pg_program.specs.declared.syntax.Stmt.{Stmt}
 use Rattle.pg_program.specs.Block.{block}
 use Rattle.pg_program.specs.Graph.{statements}
-use Rattle.pg_program.specs.Fault.{Fault, in_thread, in_threads, told}
+use Rattle.pg_program.specs.Fault.{Fault, in_thread, in_threads, plain_fault}
 use Rattle.pg_program.specs.Clause.{clause_of}
 use Rattle.pg_program.specs.Program.{IsThread}
 use Rattle.pg_program.proofs.ClauseLemmas.{in_threads-drop, item_viewed, length_viewed, All-viewed, stops}
@@ -27,6 +27,6 @@ returns-in_err-check_thread c =
     let e = c.in_err-check_thread.field-0.0 in
     let p = err_from_is_err_and c.from_residual.result c.from_residual.ensures.1 in
     rw (p.1, p.2)
-    (subst (λ (f : Option Fault). IfSome (told e) (λ g. f ≡ Some g))
+    (subst (λ (f : Option Fault). IfSome (plain_fault e) (λ g. f ≡ Some g))
     (sym (sym c.loop-i.invariant ∙ in_threads-drop C (i + 1) ls i ss here (item_viewed items c.args.threads.now i c.index-threads-i.result c.index-threads-i.is)))
-    (stops first rest e (subst (λ (l : List Stmt). IfSome (told e) (λ g. in_thread C (i + 1) 1 (statements (block l)) ≡ Some g)) c.deref.ensures.value c.in_err-check_thread.ensures)))
+    (stops first rest e (subst (λ (l : List Stmt). IfSome (plain_fault e) (λ g. in_thread C (i + 1) 1 (statements (block l)) ≡ Some g)) c.deref.ensures.value c.in_err-check_thread.ensures)))

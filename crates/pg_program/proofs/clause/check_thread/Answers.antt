@@ -2,7 +2,7 @@ use Rattle.std.proofs.Common.{◌≡◌, ◌+◌, ◌∙◌, ap, sym, subst, ari
 use Rattle.std.proofs.lemmas.Result.{err_from_is_err_and}
 use Rattle.pg_program.specs.Block.{block}
 use Rattle.pg_program.specs.Graph.{statements}
-use Rattle.pg_program.specs.Fault.{Fault, in_thread, first_of, told}
+use Rattle.pg_program.specs.Fault.{Fault, in_thread, first_of, plain_fault}
 use Rattle.pg_program.specs.Clause.{clause_of}
 use Rattle.pg_program.proofs.GraphLemmas.{length-statements}
 use Rattle.pg_program.proofs.ClauseLemmas.{in_thread-drop, drop-all, stops, none_within}
@@ -25,7 +25,7 @@ returns-in_err-check_stmt-in-Some c =
     let e = c.in_err-check_stmt-in-Some.field-0.0 in
     let p = err_from_is_err_and c.from_residual.result c.from_residual.ensures.1 in
     rw (p.1, p.2)
-    (subst (λ (f : Option Fault). IfSome (told e) (λ g. f ≡ Some g))
+    (subst (λ (f : Option Fault). IfSome (plain_fault e) (λ g. f ≡ Some g))
     (sym (sym c.loop-place.invariant ∙ in_thread-drop C c.args.thread (k + 1) ss k c.in-Some.stmt.now (sym c.in-Some.ensures)))
     (stops (C (record { thread = c.args.thread; point = k + 1 }) c.in-Some.stmt.now) rest e c.in_err-check_stmt-in-Some.ensures))
 

@@ -1,5 +1,6 @@
 use Rattle.std.proofs.Common.{◌≡◌, ◌∙◌, ap, sym, true, ℕ, [], Some}
-use Rattle.pg_program.specs.Fault.{repeated, targets, is_auxiliary}
+use Rattle.pg_program.specs.Words.{repeated, targets}
+use Rattle.pg_program.specs.NameTable.{is_auxiliary}
 use Rattle.pg_program.proofs.ClauseLemmas.{repeated-All, auxiliary_declared}
 use Rattle.pg_program.proofs.clause.distinct_targets.Goals as goal
 

@@ -1,6 +1,6 @@
 use Rattle.std.proofs.Common.{◌≡◌, drop}
 use Rattle.std.specs.List.{find}
-use Rattle.pg_program.specs.Fault.{is_foreign}
+use Rattle.pg_program.specs.NameTable.{is_foreign}
 use Rattle.pg_program.proofs.clause.first_foreign.Given as goal
 
 -- the scalars so far are none

@@ -1,5 +1,5 @@
 use Rattle.std.proofs.Common.{◌≡◌, [], drop, take}
-use Rattle.pg_program.specs.Fault.{repeated}
+use Rattle.pg_program.specs.Words.{repeated}
 use Rattle.pg_program.proofs.clause.first_repeated.Given as goal
 
 -- the scalars so far differ

@@ -1,7 +1,7 @@
 use Rattle.pg_program.specs.declared.syntax.Act.{out-Act}
 use Rattle.pg_program.specs.declared.syntax.Act.TheVariants.{outs-Cas}
 use Rattle.pg_program.specs.Expr.{numbers}
-use Rattle.pg_program.specs.Fault.{numbers_in}
+use Rattle.pg_program.specs.Words.{numbers_in}
 use Rattle.pg_program.proofs.ExprLemmas.{numbers_at}
 use Rattle.pg_program.proofs.AppendLemmas.{owes_nothing, append_both}
 use Rattle.pg_program.proofs.words.append_act_numbers.Goals as goal

@@ -1,5 +1,5 @@
 use Rattle.std.proofs.Common.{◌≡◌, ◌++◌, drop}
-use Rattle.pg_program.specs.Fault.{bracket_numbers}
+use Rattle.pg_program.specs.Words.{bracket_numbers}
 use Rattle.pg_program.proofs.words.append_bracket_numbers.Given as goal
 
 -- the assignments so far are appended

@@ -1,7 +1,7 @@
 use Rattle.std.proofs.Common.{ap, sym, ◌∙◌, [], ◌∷◌, ◌++◌}
 use Rattle.pg_program.specs.Expr.{reads}
 use Rattle.pg_program.specs.declared.syntax.Act.TheVariants.{outs-Assign, outs-Store, outs-Load, outs-Cas}
-use Rattle.pg_program.specs.Fault.{outside}
+use Rattle.pg_program.specs.Words.{outside}
 use Rattle.pg_program.proofs.ExprLemmas.{outside_at}
 use Rattle.pg_program.proofs.AppendLemmas.{owes_nothing, append_one, append_both, append_three}
 use Rattle.pg_program.proofs.words.append_outside.Goals as goal

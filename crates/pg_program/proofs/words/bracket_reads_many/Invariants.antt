@@ -1,7 +1,7 @@
 use Rattle.std.proofs.Common.{◌≡◌, drop, map}
 use Rattle.std.specs.List.{list_any}
 use Rattle.pg_program.specs.Expr.{reads}
-use Rattle.pg_program.specs.Fault.{is_wide}
+use Rattle.pg_program.specs.Words.{is_wide}
 use Rattle.pg_program.proofs.words.bracket_reads_many.Given as goal
 
 -- the expressions so far read few names

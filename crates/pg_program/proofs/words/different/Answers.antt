@@ -1,5 +1,5 @@
 use Rattle.std.proofs.Common.{◌≡◌, ◌+◌, ◌-◌, ◌<◌, ◌∙◌, ap, sym, arith, length, drop, take, get_or, length-drop, true, false}
-use Rattle.pg_program.specs.Fault.{is_in}
+use Rattle.pg_program.specs.Words.{is_in}
 use Rattle.pg_program.proofs.ClauseLemmas.{different-drop, take-rest}
 use Rattle.pg_program.proofs.words.different.Goals as goal
 use Rattle.pg_program.proofs.words.different.Goals.{then-not-stands_in, else-not-stands_in}

@@ -1,5 +1,5 @@
 use Rattle.std.proofs.Common.{◌≡◌, ◌+◌, ◌≤◌, drop, length}
-use Rattle.pg_program.specs.Fault.{different}
+use Rattle.pg_program.specs.Words.{different}
 use Rattle.pg_program.proofs.words.different.Given as goal
 
 -- the different numbers among the others are still to be counted
