@@ -1,17 +1,12 @@
 -- What a bracket that is read so far leads to, by what its next turn meets. The turn is the i-th of n, from 0.
-use Rattle.std.proofs.Common.{◌≡◌, ℕ, zero, suc, ◌+◌, ◌-◌, ◌<◌, ◌≤◌, Bool, true, false, Ok, Err, List, [], ◌∷◌, ◌++◌, ap, sym, ◌∙◌, arith}
+use Rattle.std.proofs.Common.{◌≡◌, ℕ, zero, ◌+◌, ◌-◌, ◌<◌, ◌≤◌, Bool, true, false, Ok, Err, List, [], ◌∷◌, ◌++◌, ap, sym, ◌∙◌}
 use Rattle.std.specs.Prelude.{if◌then◌else◌}
 use Rattle.pg_lex.specs.declared.fault.TextFault.{TextFault}
 use Rattle.pg_program.specs.NameTable.{NameTable}
 use Rattle.pg_program.specs.declared.syntax.AuxAssign.{AuxAssign}
 use Rattle.pg_assertion_text.specs.Input.{Input, Outcome, Parser, and_then, pure}
 use Rattle.pg_program_text.specs.Stmt.{assignment, separator, assignments_on}
-
-turns_left : (n i : ℕ) → i < n → n - i ≡ suc (n - (i + 1))
-turns_left n i h = omega arith
-
-none_left : (n i : ℕ) → n ≤ i → n - i ≡ zero
-none_left n i h = omega arith
+use Rattle.pg_program_text.proofs.Turns.{next_turn, no_turn}
 
 -- what is behind an assignment
 abbrev after : NameTable → ℕ → List AuxAssign → AuxAssign → Parser (List AuxAssign)
@@ -21,8 +16,8 @@ turn : (names : NameTable) (n i : ℕ) (found : List AuxAssign) (t : Input) (who
     → i < n → whole ≡ assignments_on names (n - i) found t → assignment names (n - i) t ≡ o → whole ≡ and_then o (after names (n - (i + 1)) found)
 unfolding assignments_on
 turn names n i found t whole o below is gives =
-    is ∙ ap (λ k. assignments_on names k found t) (turns_left n i below)
-    ∙ ap (λ k. and_then (assignment names k t) (after names (n - (i + 1)) found)) (sym (turns_left n i below))
+    is ∙ next_turn (λ k. assignments_on names k found t) n i below
+    ∙ sym (next_turn (λ k. and_then (assignment names k t) (after names (n - (i + 1)) found)) n i below)
     ∙ ap (λ o. and_then o (after names (n - (i + 1)) found)) gives
 
 pub bracket_fails : (names : NameTable) (n i : ℕ) (found : List AuxAssign) (t : Input) (whole : Outcome (List AuxAssign)) (e : TextFault)
@@ -54,4 +49,4 @@ pub bracket_last : (names : NameTable) (n i : ℕ) (found : List AuxAssign) (t :
     → n ≤ i → whole ≡ assignments_on names (n - i) found t → assignment names zero t ≡ o → whole ≡ and_then o (λ a. pure (found ++ a ∷ []))
 unfolding assignments_on
 bracket_last names n i found t whole o out is gives =
-    is ∙ ap (λ k. assignments_on names k found t) (none_left n i out) ∙ ap (λ o. and_then o (λ a. pure (found ++ a ∷ []))) gives
+    is ∙ no_turn (λ k. assignments_on names k found t) n i out ∙ ap (λ o. and_then o (λ a. pure (found ++ a ∷ []))) gives

@@ -1,3 +1,4 @@
+mod Turns
 mod Links
 mod Levels
 mod Names

@@ -1,5 +1,5 @@
 -- What a chain of items that is read so far leads to, by what its next turn meets. The turn is the i-th of n, from 0.
-use Rattle.std.proofs.Common.{◌≡◌, ℕ, zero, suc, ◌+◌, ◌-◌, ◌<◌, ◌≤◌, Ok, Err, Some, None, ap, ◌∙◌, arith}
+use Rattle.std.proofs.Common.{◌≡◌, ℕ, ◌+◌, ◌-◌, ◌<◌, ◌≤◌, Ok, Err, Some, None, ap, ◌∙◌}
 use Rattle.std.specs.Prelude.{Option}
 use Rattle.pg_lex.specs.declared.token.Sign.{Sign}
 use Rattle.pg_lex.specs.declared.fault.TextFault.{TextFault}
@@ -8,19 +8,14 @@ use Rattle.pg_lex.specs.declared.fault.TextKind.TheVariants.{TooMany}
 use Rattle.pg_program.specs.declared.syntax.Expr.{Expr}
 use Rattle.pg_assertion_text.specs.Input.{Input, Outcome, Parser, and_then}
 use Rattle.pg_program_text.specs.Expr.{by_sign, next_link, linked_on}
-
-turns_left : (n i : ℕ) → i < n → n - i ≡ suc (n - (i + 1))
-turns_left n i h = omega arith
-
-no_turns : (n i : ℕ) → n ≤ i → n - i ≡ zero
-no_turns n i h = omega arith
+use Rattle.pg_program_text.proofs.Turns.{next_turn, no_turn}
 
 -- the sign gives this, and what is behind it that
 turn : (item : Parser Expr) (link : Parser (Option Sign)) (n i : ℕ) (left : Expr) (t : Input) (whole : Outcome Expr) (o : Outcome (Option Sign))
     → i < n → whole ≡ linked_on item link (n - i) left t → link t ≡ o → whole ≡ and_then o (next_link item (linked_on item link (n - (i + 1))) left)
 unfolding linked_on
 turn item link n i left t whole o below is gives =
-    is ∙ ap (λ k. linked_on item link k left t) (turns_left n i below) ∙ ap (λ o. and_then o (next_link item (linked_on item link (n - (i + 1))) left)) gives
+    is ∙ next_turn (λ k. linked_on item link k left t) n i below ∙ ap (λ o. and_then o (next_link item (linked_on item link (n - (i + 1))) left)) gives
 
 pub link_stops : (item : Parser Expr) (link : Parser (Option Sign)) (n i : ℕ) (left : Expr) (t : Input) (whole : Outcome Expr) (e : TextFault)
     → i < n → whole ≡ linked_on item link (n - i) left t → link t ≡ Err e → whole ≡ Err e
@@ -44,4 +39,4 @@ link_goes item link n i left right z t u v whole below is more reads =
 pub link_out : (item : Parser Expr) (link : Parser (Option Sign)) (n i : ℕ) (left : Expr) (t : Input) (whole : Outcome Expr)
     → n ≤ i → whole ≡ linked_on item link (n - i) left t → whole ≡ Err (At 0 TooMany)
 unfolding linked_on
-link_out item link n i left t whole out is = is ∙ ap (λ k. linked_on item link k left t) (no_turns n i out)
+link_out item link n i left t whole out is = is ∙ no_turn (λ k. linked_on item link k left t) n i out

@@ -27,7 +27,7 @@ use Rattle.pg_program_text.specs.declared.thread.ThreadText.{ThreadText}
 use Rattle.pg_program_text.specs.declared.thread.TheConstants.{MAX_POINTS, MAX_BLOCKS}
 use Rattle.pg_program_text.specs.Keywords.{spelling, keyword}
 use Rattle.pg_program_text.specs.Stmt.{a_test, an_act, bracket}
-use Rattle.pg_program_text.specs.Thread.{Lines, Noted, no_lines, bare, with_line, ending, simple, ends_by, ends, line_or_end, lines_on, lines, block, else_by, else_part, joined, branch, repeat, statement_by, statement_in, statement, begins, begins_by, line_or_last, body_on, thread_at}
+use Rattle.pg_program_text.specs.Thread.{Lines, Noted, no_lines, bare, with_line, ending, simple, ends_by, ends, line, line_or_end, lines_on, lines, block, else_by, else_part, joined, branch, repeat, statement_by, statement_in, statement, begins, begins_by, line_or_last, line_of_body, body_goes_on, body_on, thread_at}
 use Rattle.pg_program_text.specs.Text.{lines as lines_of, ReadsAt, Answers, HasOneReading}
 use Rattle.pg_program_text.specs.Grammar as g
 use Rattle.pg_program_text.specs.Grammar.{Part, IsPart, a_simple, an_if, a_while, an_else, no_else, in_braces, no_lines as none, a_line, IsAct, an_assign, a_store, a_load, a_cas, an_mfence, an_sfence, a_flush, a_flushopt, IsBracket, IsTest, IsNote, IsBody, last_note, body_line, BeginsNone, IsThreadText}
@@ -164,12 +164,13 @@ end_lines names stmt (suc k) r before from end close turns = ap (λ o. and_then 
 line_reads : (names : NameTable) (stmt : Parser Noted) (k r : ℕ) (before : Lines) (f : Plain RawAtom) (a : Noted) (from mid end : Cursor) → IsNote names from f mid → 0 < r → 0 < k
     → stmt (at mid (r - 1)) ≡ Ok (a, at end (r - 1 - length a.notes))
     → lines_on names stmt k before (at from r) ≡ lines_on names stmt (k - 1) (with_line before f a) (at end (r - 1 - length a.notes))
-unfolding lines_on
+unfolding lines_on line
 line_reads names stmt zero r before f a from mid end noted some turns reads = absurd (omega arith)
 line_reads names stmt (suc k) r before f a from mid end noted some turns reads =
     ap (λ o. and_then o (line_or_end names stmt (lines_on names stmt k) before)) (note_goes_on names r f from mid noted)
-    ∙ ap (λ o. and_then o (λ f u. and_then (stmt u) (λ a. lines_on names stmt k (with_line before f a)))) (note_reads names (at from r) f mid noted some)
-    ∙ ap (λ o. and_then o (λ a. lines_on names stmt k (with_line before f a))) reads
+    ∙ ap (λ o. and_then o (lines_on names stmt k))
+    (ap (λ o. and_then o (λ f u. and_then (stmt u) (λ a. pure (with_line before f a)))) (note_reads names (at from r) f mid noted some)
+    ∙ ap (λ o. and_then o (λ a. pure (with_line before f a))) reads)
     ∙ ap (λ n. lines_on names stmt n (with_line before f a) (at end (r - 1 - length a.notes))) (omega arith)
 
 block_reads : (names : NameTable) (n : ℕ) (from mid end to : Cursor) (ss : List Stmt) (ns : List (Plain RawAtom)) → Stands names (sign s.OpenBrace) from mid → Claim names g.lines n mid ss ns end
@@ -293,23 +294,25 @@ stmt_begins names _ _ _ _ _ (a_while n c ss ns from mid end to st tested is) = r
 
 last_reads : (names : NameTable) (k r : ℕ) (before : Lines) (f : Plain RawAtom) (from to : Cursor) → IsNote names from f to → BeginsNone names to → 0 < r → 0 < k
     → body_on names k before (at from r) ≡ Ok (record { stmts = before.stmts; notes = before.notes ++ f ∷ [] }, at to (r - 1))
-unfolding body_on
+unfolding body_on line_of_body
 last_reads names zero r before f from to noted stops some turns = absurd (omega arith)
 last_reads names (suc k) r before f from to noted stops some turns =
-    ap (λ o. and_then o (λ f l. and_then (peek l) (λ t. line_or_last names (body_on names k) before f (begins names t)))) (note_reads names (at from r) f to noted some)
-    ∙ ap (λ o. and_then o (λ t. line_or_last names (body_on names k) before f (begins names t))) (peek_reads (at to (r - 1)) stops.lexeme stops.read)
-    ∙ ap (λ b. line_or_last names (body_on names k) before f b (at to (r - 1))) stops.begins_none
+    ap (λ o. and_then o (body_goes_on (body_on names k)))
+    (ap (λ o. and_then o (λ f l. and_then (peek l) (λ t. line_or_last names before f (begins names t)))) (note_reads names (at from r) f to noted some)
+    ∙ ap (λ o. and_then o (λ t. line_or_last names before f (begins names t))) (peek_reads (at to (r - 1)) stops.lexeme stops.read)
+    ∙ ap (λ b. line_or_last names before f b (at to (r - 1))) stops.begins_none)
 
 body_line_reads : (names : NameTable) (k r : ℕ) (before : Lines) (f : Plain RawAtom) (a : Noted) (from mid end : Cursor) → IsNote names from f mid → Begun names mid → 0 < r → 0 < k
     → statement names MAX_BLOCKS (at mid (r - 1)) ≡ Ok (a, at end (r - 1 - length a.notes))
     → body_on names k before (at from r) ≡ body_on names (k - 1) (with_line before f a) (at end (r - 1 - length a.notes))
-unfolding body_on
+unfolding body_on line_of_body
 body_line_reads names zero r before f a from mid end noted begun some turns reads = absurd (omega arith)
 body_line_reads names (suc k) r before f a from mid end noted begun some turns reads =
-    ap (λ o. and_then o (λ f l. and_then (peek l) (λ t. line_or_last names (body_on names k) before f (begins names t)))) (note_reads names (at from r) f mid noted some)
-    ∙ ap (λ o. and_then o (λ t. line_or_last names (body_on names k) before f (begins names t))) (peek_reads (at mid (r - 1)) begun.lexeme begun.read)
-    ∙ ap (λ b. line_or_last names (body_on names k) before f b (at mid (r - 1))) begun.begins_one
-    ∙ ap (λ o. and_then o (λ a. body_on names k (with_line before f a))) reads
+    ap (λ o. and_then o (body_goes_on (body_on names k)))
+    (ap (λ o. and_then o (λ f l. and_then (peek l) (λ t. line_or_last names before f (begins names t)))) (note_reads names (at from r) f mid noted some)
+    ∙ ap (λ o. and_then o (λ t. line_or_last names before f (begins names t))) (peek_reads (at mid (r - 1)) begun.lexeme begun.read)
+    ∙ ap (λ b. line_or_last names before f b (at mid (r - 1))) begun.begins_one
+    ∙ ap (λ o. and_then o (λ a. pure (with_line before f a, true))) reads)
     ∙ ap (λ n. body_on names n (with_line before f a) (at end (r - 1 - length a.notes))) (omega arith)
 
 body_stands : (names : NameTable) (from to : Cursor) (ss : List Stmt) (ns : List (Plain RawAtom)) → IsBody names from ss ns to → NoKeyword from

@@ -21,7 +21,7 @@ use Rattle.pg_program_text.specs.declared.keyword.Keyword.TheVariants as k
 use Rattle.pg_program_text.specs.declared.thread.TheConstants.{MAX_POINTS, MAX_BLOCKS}
 use Rattle.pg_program_text.specs.Keywords.{spelling, keyword}
 use Rattle.pg_program_text.specs.Stmt.{note, a_test, an_act, bracket}
-use Rattle.pg_program_text.specs.Thread.{Lines, Noted, no_lines, bare, with_line, ending, simple, ends_by, ends, line_or_end, lines_on, lines, refuse_block, block, else_by, else_part, joined, branch, repeat, statement_by, statement_in, statement, begins, line_or_last, body_on, body, thread_at}
+use Rattle.pg_program_text.specs.Thread.{Lines, Noted, no_lines, bare, with_line, with_last, ending, simple, ends_by, ends, line, line_or_end, lines_on, lines, refuse_block, block, else_by, else_part, joined, branch, repeat, statement_by, statement_in, statement, begins, line_or_last, line_of_body, body_goes_on, body_on, body, thread_at}
 use Rattle.pg_program_text.specs.Grammar as g
 use Rattle.pg_program_text.specs.Grammar.{Part, IsPart, IsNote, IsBody, BeginsNone, IsThreadText}
 use Rattle.pg_program_text.proofs.PartsSound.{note_found, test_found, act_found, bracket_found, keyword_found}
@@ -102,7 +102,7 @@ line_behind names m before f a i u v j all noted room stmt b = record {
 
 lines_on_found : (names : NameTable) (m : ℕ) (stmt : Parser Noted) → ((i j : Input) (n : Noted) → stmt i ≡ Ok (n, j) → Found names g.stmt m i (alone n) j)
     → (n : ℕ) (before all : Lines) (i j : Input) → lines_on names stmt n before i ≡ Ok (all, j) → Behind names m before i all j
-unfolding lines_on EndsAt
+unfolding lines_on line EndsAt
 lines_on_found names m stmt part zero before all i j h = cc
 lines_on_found names m stmt part (suc n) before all i j h =
     bind_then (ends i) _ (all, j) h (λ b l end rest. by b l (ends_found names b i l end) (λ l i h. lines_on_found names m stmt part n l all i j h) rest)
@@ -122,11 +122,14 @@ lines_on_found names m stmt part (suc n) before all i j h =
           room = let er = end.1 in omega arith;
         })
     by false l at behind rest =
-        bind_then (note names l) _ (all, j) rest (λ f u notes rest2.
-        bind_then (stmt u) _ (all, j) rest2 (λ a v reads rest3.
+        bind_then (line names stmt before l) _ (all, j) rest (λ b w one rest2.
+        bind_then (note names l) _ (b, w) one (λ f u notes two.
+        bind_then (stmt u) _ (b, w) two (λ a v reads end.
         let noted = note_found names l u f notes in
+        let same = ok_same (with_line before f a, v) (b, w) end in
         line_behind names m before f a i u v j all
-        (subst (λ q. IsNote names q.cursor f u.cursor) at noted.0) (sym (ap (λ q. q.room) at) ∙ noted.1) (part u v a reads) (behind (with_line before f a) v rest3)))
+        (subst (λ q. IsNote names q.cursor f u.cursor) at noted.0) (sym (ap (λ q. q.room) at) ∙ noted.1) (part u v a reads)
+        (behind (with_line before f a) v (ap (λ (q : Lines × Input). lines_on names stmt n q.0 q.1) same ∙ rest2)))))
 
 -- what is read one level further in
 abbrev pub Below : NameTable → ℕ → Option (Parser Noted) → Type 0
@@ -264,24 +267,29 @@ line_rest names before f a i u v j all noted room stmt b = record {
 }
 
 body_on_found : (names : NameTable) (n : ℕ) (before all : Lines) (i j : Input) → body_on names n before i ≡ Ok (all, j) → Rest names before i all j
-unfolding body_on
+unfolding body_on line_of_body
 body_on_found names zero before all i j h = cc
 body_on_found names (suc n) before all i j h =
-    bind_then (note names i) _ (all, j) h (λ f l notes rest.
-    bind_then (peek l) _ (all, j) rest (λ t u sees rest2.
+    bind_then (line_of_body names before i) _ (all, j) h (λ p w one rest.
+    bind_then (note names i) _ (p, w) one (λ f l notes two.
+    bind_then (peek l) _ (p, w) two (λ t u sees three.
     let noted = note_found names i l f notes in
-    let p = peek_found l u t sees in
-    by f l t noted.0 noted.1 p.0 (λ b i h. body_on_found names n b all i j h) (begins names t) refl
-    (subst (λ q. line_or_last names (body_on names n) before f (begins names t) q ≡ Ok (all, j)) p.1 rest2)))
+    let q = peek_found l u t sees in
+    by f l t noted.0 noted.1 q.0 (λ b i h. body_on_found names n b all i j h) p w rest (begins names t) refl
+    (subst (λ u. line_or_last names before f (begins names t) u ≡ Ok (p, w)) q.1 three))))
   where
     by : (f : Plain RawAtom) (l : Input) (t : Lexeme) → IsNote names i.cursor f l.cursor → i.room ≡ l.room + 1 → token l.cursor ≡ Ok t
         → ((b : Lines) (i : Input) → body_on names n b i ≡ Ok (all, j) → Rest names b i all j)
-        → (b : Bool) → begins names t ≡ b → line_or_last names (body_on names n) before f b l ≡ Ok (all, j) → Rest names before i all j
-    by f l t noted room read behind true is rest =
-        bind_then (statement names MAX_BLOCKS l) _ (all, j) rest (λ a v reads rest2.
-        line_rest names before f a i l v j all noted room (statement_found names MAX_BLOCKS l v a reads) (behind (with_line before f a) v rest2))
-    by f l t noted room read behind false is rest =
-        let same = ok_same (record { stmts = before.stmts; notes = before.notes ++ f ∷ [] }, l) (all, j) rest in
+        → (p : Lines × Bool) (w : Input) → body_goes_on (body_on names n) p w ≡ Ok (all, j)
+        → (b : Bool) → begins names t ≡ b → line_or_last names before f b l ≡ Ok (p, w) → Rest names before i all j
+    by f l t noted room read behind p w rest true is one =
+        bind_then (statement names MAX_BLOCKS l) _ (p, w) one (λ a v reads end.
+        let same = ok_same ((with_line before f a, true), v) (p, w) end in
+        line_rest names before f a i l v j all noted room (statement_found names MAX_BLOCKS l v a reads)
+        (behind (with_line before f a) v (ap (λ (q : (Lines × Bool) × Input). body_goes_on (body_on names n) q.0 q.1) same ∙ rest)))
+    by f l t noted room read behind p w rest false is one =
+        let ends = ok_same ((with_last before f, false), l) (p, w) one in
+        let same = ok_same (with_last before f, l) (all, j) (ap (λ (q : (Lines × Bool) × Input). body_goes_on (body_on names n) q.0 q.1) ends ∙ rest) in
         subst (λ (q : Lines × Input). Rest names before i q.0 q.1) same (record {
           stmts = [];
           notes = f ∷ [];

@@ -36,7 +36,7 @@ use Rattle.pg_program_text.specs.Thread.{bare}
 use Rattle.pg_program_text.specs.Grammar as g
 use Rattle.pg_program_text.specs.Grammar.{IsAct, IsExpr, IsAssignment, AreAssignments, IsBracket, IsTest}
 use Rattle.pg_program_text.specs.Spelling.{Tree, number, name, sum, difference, product, tree, tree_step, is_sum, is_binary, opens, nodes, Declared, NumbersFit}
-use Rattle.pg_program_text.specs.SpellingLaws.{IsWritable, WholeExpr, WholeTest, WholeAct, WholeAssignment, WholeStmt}
+use Rattle.pg_program_text.specs.SpellingLaws.{WholeExpr, WholeTest, WholeAct, WholeAssignment, WholeStmt}
 use Rattle.pg_program_text.specs.BodyLaws.{BodiesAreWhole, TextsSpeakOfNames}
 use Rattle.pg_program_text.proofs.Bodies.{IsSimple, act_simple, opened, opened_if, opened_while, Meets, body_points}
 

@@ -43,6 +43,10 @@ bare a = roll-Stmt (record { act = a; aux = [] })
 abbrev pub with_line : Lines → Plain RawAtom → Noted → Lines
 with_line l f n = record { stmts = l.stmts ++ n.stmt ∷ []; notes = l.notes ++ f ∷ n.notes }
 
+-- the note of the end
+abbrev pub with_last : Lines → Plain RawAtom → Lines
+with_last l f = record { stmts = l.stmts; notes = l.notes ++ f ∷ [] }
+
 -- `bracket ;`
 unfoldable pub ending : NameTable → Parser (List AuxAssign)
 ending names = do
@@ -68,14 +72,18 @@ ends = do
   t ← peek
   ends_by (is_sign s.CloseBrace t.kind)
 
+-- one more note and its statement
+unfoldable pub line : NameTable → Parser Noted → Lines → Parser Lines
+line names stmt l = do
+  f ← note names
+  a ← stmt
+  pure (with_line l f a)
+
 -- The lines of a block up to its `}`. Each has a note, which takes a point, so that there is at most one turn more than
 -- there are points to come.
 abbrev pub line_or_end : NameTable → Parser Noted → (Lines → Parser Lines) → Lines → Bool → Parser Lines
 line_or_end names stmt rest l true = pure l
-line_or_end names stmt rest l false = do
-  f ← note names
-  a ← stmt
-  rest (with_line l f a)
+line_or_end names stmt rest l false = line names stmt l >>= rest
 
 unfoldable pub lines_on : NameTable → Parser Noted → ℕ → Lines → Parser Lines
 lines_on names stmt zero l = refuse 0 TooMany
@@ -156,18 +164,28 @@ unfoldable pub begins : NameTable → Lexeme → Bool
 begins names t = begins_by names t (keyword t)
 
 -- a note that a statement follows, or the last one
-abbrev pub line_or_last : NameTable → (Lines → Parser Lines) → Lines → Plain RawAtom → Bool → Parser Lines
-line_or_last names rest l f true = do
+abbrev pub line_or_last : NameTable → Lines → Plain RawAtom → Bool → Parser (Lines × Bool)
+line_or_last names l f true = do
   a ← statement names MAX_BLOCKS
-  rest (with_line l f a)
-line_or_last names rest l f false = pure (record { stmts = l.stmts; notes = l.notes ++ f ∷ [] })
+  pure (with_line l f a, true)
+line_or_last names l f false = pure (with_last l f, false)
 
+-- one more note, and whether the body goes on after it, with its statement then
+unfoldable pub line_of_body : NameTable → Lines → Parser (Lines × Bool)
+line_of_body names l = do
+  f ← note names
+  t ← peek
+  line_or_last names l f (begins names t)
+
+abbrev pub body_goes_on : (Lines → Parser Lines) → Lines × Bool → Parser Lines
+body_goes_on rest p = if p.1 then rest p.0 else pure p.0
+
+-- at most n turns
 unfoldable pub body_on : NameTable → ℕ → Lines → Parser Lines
 body_on names zero l = refuse 0 TooMany
 body_on names (suc n) l = do
-  f ← note names
-  t ← peek
-  line_or_last names (body_on names n) l f (begins names t)
+  p ← line_of_body names l
+  body_goes_on (body_on names n) p
 
 abbrev pub body : NameTable → Parser Lines
 body names = λ i. body_on names (i.room + 1) no_lines i

@@ -7,7 +7,7 @@ ghost use Rattle.pg_assertion.specs.Formula.{plain};
 ghost use Rattle.pg_assertion_text.specs.Input.{Does, Reads};
 ghost use Rattle.pg_assertion_text.specs.Words.{IsText};
 ghost use Rattle.pg_program_text.specs.Thread as spec;
-ghost use Rattle.pg_program_text.specs.Thread.{Lines, with_line, no_lines};
+ghost use Rattle.pg_program_text.specs.Thread.{Lines, with_line, with_last, no_lines};
 ghost use Rattle.pg_program_text.specs.Text.{lines, noted, ReadsAt, Answers};
 ghost use Rattle.pg_program_text.specs.Grammar.{IsThreadText};
 
@@ -61,6 +61,14 @@ impl ThreadText {
         self.stmts.push(stmt)?;
         self.notes.push(note)?;
         self.notes.append(&mut notes)
+    }
+
+    /// The note of the end.
+    fn add_last(&mut self, note: Formula<RawAtom>) -> Result<(), AllocError>
+        ensures { OnOk result (lines self.new ≡ with_last (lines self.old) (plain note)) }
+    {
+        self.notes.push(note)?;
+        Ok(())
     }
 }
 
@@ -264,11 +272,27 @@ fn block_lines(
         if ends(tokens)? {
             return Ok(text);
         }
-        let note = note(alloc, tokens, names)?;
-        let line = statement(alloc, tokens, names, levels)?;
-        text.add(note, line)?;
+        line(alloc, tokens, names, levels, &mut text)?;
     }
     Err(refused(0, TextKind::TooMany))
+}
+
+/// One more note and its statement, for the end of the text. After an error the text may have the statement without the note.
+#[cycle(thread)]
+#[tactic(auto, unfolding(crate::specs::Thread::line))]
+fn line(
+    alloc: Global,
+    tokens: &mut Tokens<'_>,
+    names: &Names,
+    levels: u32,
+    text: &mut ThreadText,
+) -> Result<(), TextFault>
+    ensures { Reads (λ u. lines text.new) (spec.line names.now (spec.statement names.now levels) (lines text.old) tokens.old) result tokens.new }
+{
+    let note = note(alloc, tokens, names)?;
+    let line = statement(alloc, tokens, names, levels)?;
+    text.add(note, line)?;
+    Ok(())
 }
 
 /// A branch of its test and its two blocks.
@@ -311,20 +335,36 @@ fn too_deep(token: &Token<'_>) -> TextFault
     }
 }
 
+/// One more note of a body, for the end of the text, and whether the body goes on after it, with its statement then.
+#[tactic(auto, unfolding(crate::specs::Thread::line_of_body))]
+fn body_line(
+    alloc: Global,
+    tokens: &mut Tokens<'_>,
+    names: &Names,
+    text: &mut ThreadText,
+) -> Result<bool, TextFault>
+    ensures { Reads (λ more. (lines text.new, more)) (spec.line_of_body names.now (lines text.old) tokens.old) result tokens.new }
+{
+    let note = note(alloc, tokens, names)?;
+    let token = tokens.peek()?;
+    if !begins(names, &token) {
+        text.add_last(note)?;
+        return Ok(false);
+    }
+    let line = statement(alloc, tokens, names, MAX_BLOCKS)?;
+    text.add(note, line)?;
+    Ok(true)
+}
+
 /// The body of a thread: a note, and statements with a note behind each.
 fn body(alloc: Global, tokens: &mut Tokens<'_>, names: &Names) -> Result<ThreadText, TextFault>
     ensures { Reads lines (spec.body names.now tokens.old) result tokens.new }
 {
     let mut text = ThreadText::new(alloc);
     'lines: for _i in 0..tokens.turns() {
-        let note = note(alloc, tokens, names)?;
-        let token = tokens.peek()?;
-        if !begins(names, &token) {
-            text.notes.push(note)?;
+        if !body_line(alloc, tokens, names, &mut text)? {
             return Ok(text);
         }
-        let line = statement(alloc, tokens, names, MAX_BLOCKS)?;
-        text.add(note, line)?;
     }
     Err(refused(0, TextKind::TooMany))
 }

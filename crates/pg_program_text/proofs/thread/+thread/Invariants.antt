@@ -5,7 +5,10 @@ use Rattle.pg_program_text.specs.Text.{lines}
 use Rattle.pg_program_text.proofs.thread.+thread.Given as goal
 
 abbrev pub decreases-block_lines : goal.decreases-block_lines
-decreases-block_lines l = 8 * l.levels + 6
+decreases-block_lines l = 8 * l.levels + 7
+
+abbrev pub decreases-line : goal.decreases-line
+decreases-line l = 8 * l.levels + 6
 
 abbrev pub decreases-statement : goal.decreases-statement
 decreases-statement l = 8 * l.levels + 5
