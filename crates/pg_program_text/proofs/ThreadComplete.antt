@@ -27,7 +27,7 @@ use Rattle.pg_program_text.specs.declared.thread.ThreadText.{ThreadText}
 use Rattle.pg_program_text.specs.declared.thread.TheConstants.{MAX_POINTS, MAX_BLOCKS}
 use Rattle.pg_program_text.specs.Keywords.{spelling, keyword}
 use Rattle.pg_program_text.specs.Stmt.{a_test, an_act, bracket}
-use Rattle.pg_program_text.specs.Thread.{Lines, Noted, no_lines, bare, with_line, ending, simple, ends_by, ends, line, line_or_end, lines_on, lines, block, else_by, else_part, joined, branch, repeat, statement_by, statement_in, statement, begins, begins_by, line_or_last, line_of_body, body_goes_on, body_on, thread_at}
+use Rattle.pg_program_text.specs.Thread.{Lines, Noted, no_lines, bare, with_note, with_stmt, ending, simple, ends_by, ends, line, line_or_end, lines_on, lines, block, else_by, else_part, joined, branch, repeat, statement_by, statement_in, statement, begins, begins_by, stmt_or_end, line_of_body, body_goes_on, body_on, thread_at}
 use Rattle.pg_program_text.specs.Text.{lines as lines_of, ReadsAt, Answers, HasOneReading}
 use Rattle.pg_program_text.specs.Grammar as g
 use Rattle.pg_program_text.specs.Grammar.{Part, IsPart, a_simple, an_if, a_while, an_else, no_else, in_braces, no_lines as none, a_line, IsAct, an_assign, a_store, a_load, a_cas, an_mfence, an_sfence, a_flush, a_flushopt, IsBracket, IsTest, IsNote, IsBody, last_note, body_line, BeginsNone, IsThreadText}
@@ -163,15 +163,15 @@ end_lines names stmt (suc k) r before from end close turns = ap (λ o. and_then 
 
 line_reads : (names : NameTable) (stmt : Parser Noted) (k r : ℕ) (before : Lines) (f : Plain RawAtom) (a : Noted) (from mid end : Cursor) → IsNote names from f mid → 0 < r → 0 < k
     → stmt (at mid (r - 1)) ≡ Ok (a, at end (r - 1 - length a.notes))
-    → lines_on names stmt k before (at from r) ≡ lines_on names stmt (k - 1) (with_line before f a) (at end (r - 1 - length a.notes))
+    → lines_on names stmt k before (at from r) ≡ lines_on names stmt (k - 1) (with_stmt (with_note before f) a) (at end (r - 1 - length a.notes))
 unfolding lines_on line
 line_reads names stmt zero r before f a from mid end noted some turns reads = absurd (omega arith)
 line_reads names stmt (suc k) r before f a from mid end noted some turns reads =
     ap (λ o. and_then o (line_or_end names stmt (lines_on names stmt k) before)) (note_goes_on names r f from mid noted)
     ∙ ap (λ o. and_then o (lines_on names stmt k))
-    (ap (λ o. and_then o (λ f u. and_then (stmt u) (λ a. pure (with_line before f a)))) (note_reads names (at from r) f mid noted some)
-    ∙ ap (λ o. and_then o (λ a. pure (with_line before f a))) reads)
-    ∙ ap (λ n. lines_on names stmt n (with_line before f a) (at end (r - 1 - length a.notes))) (omega arith)
+    (ap (λ o. and_then o (λ f u. and_then (stmt u) (λ a. pure (with_stmt (with_note before f) a)))) (note_reads names (at from r) f mid noted some)
+    ∙ ap (λ o. and_then o (λ a. pure (with_stmt (with_note before f) a))) reads)
+    ∙ ap (λ n. lines_on names stmt n (with_stmt (with_note before f) a) (at end (r - 1 - length a.notes))) (omega arith)
 
 block_reads : (names : NameTable) (n : ℕ) (from mid end to : Cursor) (ss : List Stmt) (ns : List (Plain RawAtom)) → Stands names (sign s.OpenBrace) from mid → Claim names g.lines n mid ss ns end
     → Stands names (sign s.CloseBrace) end to → Claim names g.block (suc n) from ss ns to
@@ -235,10 +235,10 @@ block_opens names _ _ _ _ _ (in_braces n ss ns from mid end to st is close) = re
 
 -- lines behind one more line
 line_joined : (before : Lines) (f : Plain RawAtom) (a : Stmt) (ms : List (Plain RawAtom)) (ss : List Stmt) (ns : List (Plain RawAtom))
-    → ◌≡◌ {A = Lines} (record { stmts = (before.stmts ++ a ∷ []) ++ ss; notes = (before.notes ++ f ∷ ms) ++ ns }) (record { stmts = before.stmts ++ a ∷ ss; notes = before.notes ++ f ∷ (ms ++ ns) })
+    → ◌≡◌ {A = Lines} (record { stmts = (before.stmts ++ a ∷ []) ++ ss; notes = ((before.notes ++ f ∷ []) ++ ms) ++ ns }) (record { stmts = before.stmts ++ a ∷ ss; notes = before.notes ++ f ∷ (ms ++ ns) })
 line_joined before f a ms ss ns =
-    ap (λ l. record { stmts = l; notes = (before.notes ++ f ∷ ms) ++ ns }) (append_assoc before.stmts (a ∷ []) ss)
-    ∙ ap (λ l. record { stmts = before.stmts ++ a ∷ ss; notes = l }) (append_assoc before.notes (f ∷ ms) ns)
+    ap (λ l. record { stmts = l; notes = ((before.notes ++ f ∷ []) ++ ms) ++ ns }) (append_assoc before.stmts (a ∷ []) ss)
+    ∙ ap (λ l. record { stmts = before.stmts ++ a ∷ ss; notes = l }) (append_assoc (before.notes ++ f ∷ []) ms ns ∙ append_assoc before.notes (f ∷ []) (ms ++ ns))
 
 -- nothing behind lines
 both_nil : (l : Lines) → l ≡ record { stmts = l.stmts ++ []; notes = l.notes ++ [] }
@@ -271,7 +271,7 @@ claims names _ _ _ _ _ _ (a_line n f a ss ms ns from mid end to noted is rest) =
     let many = length-append ms ns in
     line_reads names (statement names n) k r before f (record { stmt = a; notes = ms }) from mid end noted (omega arith) (omega arith)
     (claims names g.stmt n mid end (a ∷ []) ms is (lines_stand names n end to last ss ns rest close) (r - 1) (omega arith))
-    ∙ claims names g.lines n end to ss ns rest last close (r - 1 - length ms) (omega arith) (k - 1) (omega arith) (with_line before f (record { stmt = a; notes = ms }))
+    ∙ claims names g.lines n end to ss ns rest last close (r - 1 - length ms) (omega arith) (k - 1) (omega arith) (with_stmt (with_note before f) (record { stmt = a; notes = ms }))
     ∙ ap (λ (l : Lines). Ok (l, at last (r - 1 - length ms - length ns))) (line_joined before f a ms ss ns)
     ∙ ap (λ q. Ok (record { stmts = before.stmts ++ a ∷ ss; notes = before.notes ++ f ∷ (ms ++ ns) }, at last q)) (omega arith)
 
@@ -298,22 +298,22 @@ unfolding body_on line_of_body
 last_reads names zero r before f from to noted stops some turns = absurd (omega arith)
 last_reads names (suc k) r before f from to noted stops some turns =
     ap (λ o. and_then o (body_goes_on (body_on names k)))
-    (ap (λ o. and_then o (λ f l. and_then (peek l) (λ t. line_or_last names before f (begins names t)))) (note_reads names (at from r) f to noted some)
-    ∙ ap (λ o. and_then o (λ t. line_or_last names before f (begins names t))) (peek_reads (at to (r - 1)) stops.lexeme stops.read)
-    ∙ ap (λ b. line_or_last names before f b (at to (r - 1))) stops.begins_none)
+    (ap (λ o. and_then o (λ f l. and_then (peek l) (λ t. stmt_or_end names (with_note before f) (begins names t)))) (note_reads names (at from r) f to noted some)
+    ∙ ap (λ o. and_then o (λ t. stmt_or_end names (with_note before f) (begins names t))) (peek_reads (at to (r - 1)) stops.lexeme stops.read)
+    ∙ ap (λ b. stmt_or_end names (with_note before f) b (at to (r - 1))) stops.begins_none)
 
 body_line_reads : (names : NameTable) (k r : ℕ) (before : Lines) (f : Plain RawAtom) (a : Noted) (from mid end : Cursor) → IsNote names from f mid → Begun names mid → 0 < r → 0 < k
     → statement names MAX_BLOCKS (at mid (r - 1)) ≡ Ok (a, at end (r - 1 - length a.notes))
-    → body_on names k before (at from r) ≡ body_on names (k - 1) (with_line before f a) (at end (r - 1 - length a.notes))
+    → body_on names k before (at from r) ≡ body_on names (k - 1) (with_stmt (with_note before f) a) (at end (r - 1 - length a.notes))
 unfolding body_on line_of_body
 body_line_reads names zero r before f a from mid end noted begun some turns reads = absurd (omega arith)
 body_line_reads names (suc k) r before f a from mid end noted begun some turns reads =
     ap (λ o. and_then o (body_goes_on (body_on names k)))
-    (ap (λ o. and_then o (λ f l. and_then (peek l) (λ t. line_or_last names before f (begins names t)))) (note_reads names (at from r) f mid noted some)
-    ∙ ap (λ o. and_then o (λ t. line_or_last names before f (begins names t))) (peek_reads (at mid (r - 1)) begun.lexeme begun.read)
-    ∙ ap (λ b. line_or_last names before f b (at mid (r - 1))) begun.begins_one
-    ∙ ap (λ o. and_then o (λ a. pure (with_line before f a, true))) reads)
-    ∙ ap (λ n. body_on names n (with_line before f a) (at end (r - 1 - length a.notes))) (omega arith)
+    (ap (λ o. and_then o (λ f l. and_then (peek l) (λ t. stmt_or_end names (with_note before f) (begins names t)))) (note_reads names (at from r) f mid noted some)
+    ∙ ap (λ o. and_then o (λ t. stmt_or_end names (with_note before f) (begins names t))) (peek_reads (at mid (r - 1)) begun.lexeme begun.read)
+    ∙ ap (λ b. stmt_or_end names (with_note before f) b (at mid (r - 1))) begun.begins_one
+    ∙ ap (λ o. and_then o (λ a. pure (with_stmt (with_note before f) a, true))) reads)
+    ∙ ap (λ n. body_on names n (with_stmt (with_note before f) a) (at end (r - 1 - length a.notes))) (omega arith)
 
 body_stands : (names : NameTable) (from to : Cursor) (ss : List Stmt) (ns : List (Plain RawAtom)) → IsBody names from ss ns to → NoKeyword from
 body_stands names _ _ _ _ (last_note f from to noted) = note_stands names f from to noted
@@ -329,7 +329,7 @@ body_reads names _ _ _ _ (body_line f a ss ms ns from mid end to noted is rest) 
     let many = length-append ms ns in
     body_line_reads names k r before f (record { stmt = a; notes = ms }) from mid end noted (stmt_begins names MAX_BLOCKS mid end (a ∷ []) ms is) (omega arith) (omega arith)
     (claims names g.stmt MAX_BLOCKS mid end (a ∷ []) ms is (body_stands names end to ss ns rest) (r - 1) (omega arith))
-    ∙ body_reads names end to ss ns rest stops (r - 1 - length ms) (omega arith) (k - 1) (omega arith) (with_line before f (record { stmt = a; notes = ms }))
+    ∙ body_reads names end to ss ns rest stops (r - 1 - length ms) (omega arith) (k - 1) (omega arith) (with_stmt (with_note before f) (record { stmt = a; notes = ms }))
     ∙ ap (λ (l : Lines). Ok (l, at to (r - 1 - length ms - length ns))) (line_joined before f a ms ss ns)
     ∙ ap (λ q. Ok (record { stmts = before.stmts ++ a ∷ ss; notes = before.notes ++ f ∷ (ms ++ ns) }, at to q)) (omega arith)
 

@@ -21,7 +21,7 @@ use Rattle.pg_program_text.specs.declared.keyword.Keyword.TheVariants as k
 use Rattle.pg_program_text.specs.declared.thread.TheConstants.{MAX_POINTS, MAX_BLOCKS}
 use Rattle.pg_program_text.specs.Keywords.{spelling, keyword}
 use Rattle.pg_program_text.specs.Stmt.{note, a_test, an_act, bracket}
-use Rattle.pg_program_text.specs.Thread.{Lines, Noted, no_lines, bare, with_line, with_last, ending, simple, ends_by, ends, line, line_or_end, lines_on, lines, refuse_block, block, else_by, else_part, joined, branch, repeat, statement_by, statement_in, statement, begins, line_or_last, line_of_body, body_goes_on, body_on, body, thread_at}
+use Rattle.pg_program_text.specs.Thread.{Lines, Noted, no_lines, bare, with_note, with_stmt, ending, simple, ends_by, ends, line, line_or_end, lines_on, lines, refuse_block, block, else_by, else_part, joined, branch, repeat, statement_by, statement_in, statement, begins, stmt_or_end, line_of_body, body_goes_on, body_on, body, thread_at}
 use Rattle.pg_program_text.specs.Grammar as g
 use Rattle.pg_program_text.specs.Grammar.{Part, IsPart, IsNote, IsBody, BeginsNone, IsThreadText}
 use Rattle.pg_program_text.proofs.PartsSound.{note_found, test_found, act_found, bracket_found, keyword_found}
@@ -88,12 +88,12 @@ record Behind (names : NameTable) (m : ℕ) (before : Lines) (i : Input) (all : 
 
 -- one more line in front
 line_behind : (names : NameTable) (m : ℕ) (before : Lines) (f : Plain RawAtom) (a : Noted) (i u v j : Input) (all : Lines)
-    → IsNote names i.cursor f u.cursor → i.room ≡ u.room + 1 → Found names g.stmt m u (alone a) v → Behind names m (with_line before f a) v all j → Behind names m before i all j
+    → IsNote names i.cursor f u.cursor → i.room ≡ u.room + 1 → Found names g.stmt m u (alone a) v → Behind names m (with_stmt (with_note before f) a) v all j → Behind names m before i all j
 line_behind names m before f a i u v j all noted room stmt b = record {
   stmts = a.stmt ∷ b.stmts;
   notes = f ∷ (a.notes ++ b.notes);
   stmts_are = b.stmts_are ∙ append_assoc before.stmts (a.stmt ∷ []) b.stmts;
-  notes_are = b.notes_are ∙ append_assoc before.notes (f ∷ a.notes) b.notes;
+  notes_are = b.notes_are ∙ append_assoc (before.notes ++ f ∷ []) a.notes b.notes ∙ append_assoc before.notes (f ∷ []) (a.notes ++ b.notes);
   mid = b.mid;
   is = g.a_line m f a.stmt b.stmts a.notes b.notes i.cursor u.cursor v.cursor b.mid noted stmt.is b.is;
   close = b.close;
@@ -126,10 +126,10 @@ lines_on_found names m stmt part (suc n) before all i j h =
         bind_then (note names l) _ (b, w) one (λ f u notes two.
         bind_then (stmt u) _ (b, w) two (λ a v reads end.
         let noted = note_found names l u f notes in
-        let same = ok_same (with_line before f a, v) (b, w) end in
+        let same = ok_same (with_stmt (with_note before f) a, v) (b, w) end in
         line_behind names m before f a i u v j all
         (subst (λ q. IsNote names q.cursor f u.cursor) at noted.0) (sym (ap (λ q. q.room) at) ∙ noted.1) (part u v a reads)
-        (behind (with_line before f a) v (ap (λ (q : Lines × Input). lines_on names stmt n q.0 q.1) same ∙ rest2)))))
+        (behind (with_stmt (with_note before f) a) v (ap (λ (q : Lines × Input). lines_on names stmt n q.0 q.1) same ∙ rest2)))))
 
 -- what is read one level further in
 abbrev pub Below : NameTable → ℕ → Option (Parser Noted) → Type 0
@@ -255,12 +255,12 @@ record Rest (names : NameTable) (before : Lines) (i : Input) (all : Lines) (j : 
   stops : BeginsNone names j.cursor
 
 line_rest : (names : NameTable) (before : Lines) (f : Plain RawAtom) (a : Noted) (i u v j : Input) (all : Lines)
-    → IsNote names i.cursor f u.cursor → i.room ≡ u.room + 1 → Found names g.stmt MAX_BLOCKS u (alone a) v → Rest names (with_line before f a) v all j → Rest names before i all j
+    → IsNote names i.cursor f u.cursor → i.room ≡ u.room + 1 → Found names g.stmt MAX_BLOCKS u (alone a) v → Rest names (with_stmt (with_note before f) a) v all j → Rest names before i all j
 line_rest names before f a i u v j all noted room stmt b = record {
   stmts = a.stmt ∷ b.stmts;
   notes = f ∷ (a.notes ++ b.notes);
   stmts_are = b.stmts_are ∙ append_assoc before.stmts (a.stmt ∷ []) b.stmts;
-  notes_are = b.notes_are ∙ append_assoc before.notes (f ∷ a.notes) b.notes;
+  notes_are = b.notes_are ∙ append_assoc (before.notes ++ f ∷ []) a.notes b.notes ∙ append_assoc before.notes (f ∷ []) (a.notes ++ b.notes);
   is = g.body_line f a.stmt b.stmts a.notes b.notes i.cursor u.cursor v.cursor j.cursor noted stmt.is b.is;
   room = let sr = stmt.room in let br = b.room in let many = length-append a.notes b.notes in omega arith;
   stops = b.stops;
@@ -276,20 +276,20 @@ body_on_found names (suc n) before all i j h =
     let noted = note_found names i l f notes in
     let q = peek_found l u t sees in
     by f l t noted.0 noted.1 q.0 (λ b i h. body_on_found names n b all i j h) p w rest (begins names t) refl
-    (subst (λ u. line_or_last names before f (begins names t) u ≡ Ok (p, w)) q.1 three))))
+    (subst (λ u. stmt_or_end names (with_note before f) (begins names t) u ≡ Ok (p, w)) q.1 three))))
   where
     by : (f : Plain RawAtom) (l : Input) (t : Lexeme) → IsNote names i.cursor f l.cursor → i.room ≡ l.room + 1 → token l.cursor ≡ Ok t
         → ((b : Lines) (i : Input) → body_on names n b i ≡ Ok (all, j) → Rest names b i all j)
         → (p : Lines × Bool) (w : Input) → body_goes_on (body_on names n) p w ≡ Ok (all, j)
-        → (b : Bool) → begins names t ≡ b → line_or_last names before f b l ≡ Ok (p, w) → Rest names before i all j
+        → (b : Bool) → begins names t ≡ b → stmt_or_end names (with_note before f) b l ≡ Ok (p, w) → Rest names before i all j
     by f l t noted room read behind p w rest true is one =
         bind_then (statement names MAX_BLOCKS l) _ (p, w) one (λ a v reads end.
-        let same = ok_same ((with_line before f a, true), v) (p, w) end in
+        let same = ok_same ((with_stmt (with_note before f) a, true), v) (p, w) end in
         line_rest names before f a i l v j all noted room (statement_found names MAX_BLOCKS l v a reads)
-        (behind (with_line before f a) v (ap (λ (q : (Lines × Bool) × Input). body_goes_on (body_on names n) q.0 q.1) same ∙ rest)))
+        (behind (with_stmt (with_note before f) a) v (ap (λ (q : (Lines × Bool) × Input). body_goes_on (body_on names n) q.0 q.1) same ∙ rest)))
     by f l t noted room read behind p w rest false is one =
-        let ends = ok_same ((with_last before f, false), l) (p, w) one in
-        let same = ok_same (with_last before f, l) (all, j) (ap (λ (q : (Lines × Bool) × Input). body_goes_on (body_on names n) q.0 q.1) ends ∙ rest) in
+        let ends = ok_same ((with_note before f, false), l) (p, w) one in
+        let same = ok_same (with_note before f, l) (all, j) (ap (λ (q : (Lines × Bool) × Input). body_goes_on (body_on names n) q.0 q.1) ends ∙ rest) in
         subst (λ (q : Lines × Input). Rest names before i q.0 q.1) same (record {
           stmts = [];
           notes = f ∷ [];

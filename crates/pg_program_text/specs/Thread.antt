@@ -39,13 +39,13 @@ no_lines = record { stmts = []; notes = [] }
 abbrev pub bare : Act → Stmt
 bare a = roll-Stmt (record { act = a; aux = [] })
 
--- one more note and the statement behind it
-abbrev pub with_line : Lines → Plain RawAtom → Noted → Lines
-with_line l f n = record { stmts = l.stmts ++ n.stmt ∷ []; notes = l.notes ++ f ∷ n.notes }
+-- one more note
+abbrev pub with_note : Lines → Plain RawAtom → Lines
+with_note l f = record { stmts = l.stmts; notes = l.notes ++ f ∷ [] }
 
--- the note of the end
-abbrev pub with_last : Lines → Plain RawAtom → Lines
-with_last l f = record { stmts = l.stmts; notes = l.notes ++ f ∷ [] }
+-- one more statement, and the notes within it
+abbrev pub with_stmt : Lines → Noted → Lines
+with_stmt l n = record { stmts = l.stmts ++ n.stmt ∷ []; notes = l.notes ++ n.notes }
 
 -- `bracket ;`
 unfoldable pub ending : NameTable → Parser (List AuxAssign)
@@ -77,7 +77,7 @@ unfoldable pub line : NameTable → Parser Noted → Lines → Parser Lines
 line names stmt l = do
   f ← note names
   a ← stmt
-  pure (with_line l f a)
+  pure (with_stmt (with_note l f) a)
 
 -- The lines of a block up to its `}`. Each has a note, which takes a point, so that there is at most one turn more than
 -- there are points to come.
@@ -163,19 +163,19 @@ begins_by names t None = is_ok (named names t)
 unfoldable pub begins : NameTable → Lexeme → Bool
 begins names t = begins_by names t (keyword t)
 
--- a note that a statement follows, or the last one
-abbrev pub line_or_last : NameTable → Lines → Plain RawAtom → Bool → Parser (Lines × Bool)
-line_or_last names l f true = do
+-- a statement after the last note, or none
+abbrev pub stmt_or_end : NameTable → Lines → Bool → Parser (Lines × Bool)
+stmt_or_end names l true = do
   a ← statement names MAX_BLOCKS
-  pure (with_line l f a, true)
-line_or_last names l f false = pure (with_last l f, false)
+  pure (with_stmt l a, true)
+stmt_or_end names l false = pure (l, false)
 
 -- one more note, and whether the body goes on after it, with its statement then
 unfoldable pub line_of_body : NameTable → Lines → Parser (Lines × Bool)
 line_of_body names l = do
   f ← note names
   t ← peek
-  line_or_last names l f (begins names t)
+  stmt_or_end names (with_note l f) (begins names t)
 
 abbrev pub body_goes_on : (Lines → Parser Lines) → Lines × Bool → Parser Lines
 body_goes_on rest p = if p.1 then rest p.0 else pure p.0

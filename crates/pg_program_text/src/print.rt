@@ -123,6 +123,34 @@ fn assigned(expr: &Expr, names: &Names, into: &mut Vec<u8>) -> Result<(), AllocE
     spell_expr(expr, names, into)
 }
 
+/// Appends `r := x`.
+fn loaded(target: u8, x: u8, names: &Names, into: &mut Vec<u8>) -> Result<(), AllocError>
+    requires { (target < length names.now.scalars) × (x < length names.now.locations) }
+    ensures { OnOk result (into.new.items ≡ into.old.items ++ (scalar_name names.now target ++ (codes " := " ++ location_name names.now x))) }
+{
+    scalar(target, names, into)?;
+    into.extend_from_slice(b" := ")?;
+    location(x, names, into)
+}
+
+/// Appends a word and a location.
+fn flushed(word: &[u8], x: u8, names: &Names, into: &mut Vec<u8>) -> Result<(), AllocError>
+    requires { x < length names.now.locations }
+    ensures { OnOk result (into.new.items ≡ into.old.items ++ (word.now ++ location_name names.now x)) }
+{
+    into.extend_from_slice(word)?;
+    location(x, names, into)
+}
+
+/// Appends a word and a test.
+fn tested(word: &[u8], test: &Cond, names: &Names, into: &mut Vec<u8>) -> Result<(), AllocError>
+    requires { spec.TestDeclared names.now test.now }
+    ensures { OnOk result (into.new.items ≡ into.old.items ++ (word.now ++ spec.spell_test names.now test.now)) }
+{
+    into.extend_from_slice(word)?;
+    spell_test(test, names, into)
+}
+
 /// Appends what a statement does, but for its bracket and its blocks.
 fn spell_act(act: &Act, names: &Names, into: &mut Vec<u8>) -> Result<(), AllocError>
     requires { spec.ActDeclared names.now (out-Act act.now) }
@@ -140,11 +168,7 @@ fn spell_act(act: &Act, names: &Names, into: &mut Vec<u8>) -> Result<(), AllocEr
         Act::Load {
             target,
             location: x,
-        } => {
-            scalar(*target, names, into)?;
-            into.extend_from_slice(b" := ")?;
-            location(*x, names, into)
-        }
+        } => loaded(*target, *x, names, into),
         Act::Cas {
             target,
             location: x,
@@ -152,33 +176,35 @@ fn spell_act(act: &Act, names: &Names, into: &mut Vec<u8>) -> Result<(), AllocEr
             desired,
         } => {
             scalar(*target, names, into)?;
-            into.extend_from_slice(b" := cas(")?;
-            location(*x, names, into)?;
-            swapped(expected, desired, names, into)
+            swapped(*x, expected, desired, names, into)
         }
         Act::Mfence => into.extend_from_slice(b"mfence"),
         Act::Sfence => into.extend_from_slice(b"sfence"),
-        Act::Flush { location: x } => {
-            into.extend_from_slice(b"flush ")?;
-            location(*x, names, into)
-        }
-        Act::Flushopt { location: x } => {
-            into.extend_from_slice(b"flushopt ")?;
-            location(*x, names, into)
-        }
-        Act::If { test, .. } => {
-            into.extend_from_slice(b"if ")?;
-            spell_test(test, names, into)
-        }
-        Act::While { test, .. } => {
-            into.extend_from_slice(b"while ")?;
-            spell_test(test, names, into)
-        }
+        Act::Flush { location: x } => flushed(b"flush ", *x, names, into),
+        Act::Flushopt { location: x } => flushed(b"flushopt ", *x, names, into),
+        Act::If { test, .. } => tested(b"if ", test, names, into),
+        Act::While { test, .. } => tested(b"while ", test, names, into),
     }
 }
 
-/// Appends `, e, d)`.
+/// Appends ` := cas(x, e, d)`.
 fn swapped(
+    x: u8,
+    expected: &Expr,
+    desired: &Expr,
+    names: &Names,
+    into: &mut Vec<u8>,
+) -> Result<(), AllocError>
+    requires { (x < length names.now.locations) × spec.IsDeclared names.now expected.now × spec.IsDeclared names.now desired.now }
+    ensures { OnOk result (into.new.items ≡ into.old.items ++ (codes " := cas(" ++ (location_name names.now x ++ (codes ", " ++ (spec.spell_expr names.now expected.now ++ (codes ", " ++ (spec.spell_expr names.now desired.now ++ codes ")"))))))) }
+{
+    into.extend_from_slice(b" := cas(")?;
+    location(x, names, into)?;
+    operands(expected, desired, names, into)
+}
+
+/// Appends `, e, d)`.
+fn operands(
     expected: &Expr,
     desired: &Expr,
     names: &Names,

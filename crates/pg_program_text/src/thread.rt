@@ -7,7 +7,7 @@ ghost use Rattle.pg_assertion.specs.Formula.{plain};
 ghost use Rattle.pg_assertion_text.specs.Input.{Does, Reads};
 ghost use Rattle.pg_assertion_text.specs.Words.{IsText};
 ghost use Rattle.pg_program_text.specs.Thread as spec;
-ghost use Rattle.pg_program_text.specs.Thread.{Lines, with_line, with_last, no_lines};
+ghost use Rattle.pg_program_text.specs.Thread.{Lines, with_note, with_stmt, no_lines};
 ghost use Rattle.pg_program_text.specs.Text.{lines, noted, ReadsAt, Answers};
 ghost use Rattle.pg_program_text.specs.Grammar.{IsThreadText};
 
@@ -53,22 +53,21 @@ impl ThreadText {
         }
     }
 
-    /// One more note and the statement behind it.
-    fn add(&mut self, note: Formula<RawAtom>, line: NotedStmt) -> Result<(), AllocError>
-        ensures { OnOk result (lines self.new ≡ with_line (lines self.old) (plain note) (noted line)) }
-    {
-        let NotedStmt { stmt, mut notes } = line;
-        self.stmts.push(stmt)?;
-        self.notes.push(note)?;
-        self.notes.append(&mut notes)
-    }
-
-    /// The note of the end.
-    fn add_last(&mut self, note: Formula<RawAtom>) -> Result<(), AllocError>
-        ensures { OnOk result (lines self.new ≡ with_last (lines self.old) (plain note)) }
+    /// One more note.
+    fn add_note(&mut self, note: Formula<RawAtom>) -> Result<(), AllocError>
+        ensures { OnOk result (lines self.new ≡ with_note (lines self.old) (plain note)) }
     {
         self.notes.push(note)?;
         Ok(())
+    }
+
+    /// One more statement, and the notes within it.
+    fn add_stmt(&mut self, line: NotedStmt) -> Result<(), AllocError>
+        ensures { OnOk result (lines self.new ≡ with_stmt (lines self.old) (noted line)) }
+    {
+        let NotedStmt { stmt, mut notes } = line;
+        self.stmts.push(stmt)?;
+        self.notes.append(&mut notes)
     }
 }
 
@@ -277,7 +276,7 @@ fn block_lines(
     Err(refused(0, TextKind::TooMany))
 }
 
-/// One more note and its statement, for the end of the text. After an error the text may have the statement without the note.
+/// One more note and its statement, for the end of the text. After an error the text may have a part of them.
 #[cycle(thread)]
 #[tactic(auto, unfolding(crate::specs::Thread::line))]
 fn line(
@@ -290,8 +289,9 @@ fn line(
     ensures { Reads (λ u. lines text.new) (spec.line names.now (spec.statement names.now levels) (lines text.old) tokens.old) result tokens.new }
 {
     let note = note(alloc, tokens, names)?;
+    text.add_note(note)?;
     let line = statement(alloc, tokens, names, levels)?;
-    text.add(note, line)?;
+    text.add_stmt(line)?;
     Ok(())
 }
 
@@ -335,7 +335,8 @@ fn too_deep(token: &Token<'_>) -> TextFault
     }
 }
 
-/// One more note of a body, for the end of the text, and whether the body goes on after it, with its statement then.
+/// One more note of a body, for the end of the text, and whether the body goes on after it, with its statement then. After
+/// an error the text may have a part of them.
 #[tactic(auto, unfolding(crate::specs::Thread::line_of_body))]
 fn body_line(
     alloc: Global,
@@ -346,13 +347,13 @@ fn body_line(
     ensures { Reads (λ more. (lines text.new, more)) (spec.line_of_body names.now (lines text.old) tokens.old) result tokens.new }
 {
     let note = note(alloc, tokens, names)?;
+    text.add_note(note)?;
     let token = tokens.peek()?;
     if !begins(names, &token) {
-        text.add_last(note)?;
         return Ok(false);
     }
     let line = statement(alloc, tokens, names, MAX_BLOCKS)?;
-    text.add(note, line)?;
+    text.add_stmt(line)?;
     Ok(true)
 }
 
