@@ -8,7 +8,7 @@ use Rattle.pg_assertion.specs.declared.atom.CrashAtom.{CrashAtom}
 use Rattle.pg_assertion.specs.Formula.{Plain, with_atoms}
 use Rattle.pg_assertion_text.specs.declared.parse.TheConstants.{MAX_NODES, MAX_OPEN}
 use Rattle.pg_assertion_text.specs.Atoms.{raw_atom, crash_atom, IsRaw, IsCrash}
-use Rattle.pg_assertion_text.specs.AtomLaws.{raw_found, raw_again, raw_begins, crash_found, crash_again, crash_begins}
+use Rattle.pg_assertion_text.proofs.AtomLaws.{raw_found, raw_again, raw_begins, crash_found, crash_again, crash_begins}
 use Rattle.pg_assertion_text.specs.Follows.{Stops}
 use Rattle.pg_assertion_text.specs.Parsing.{formula_at}
 use Rattle.pg_assertion_text.specs.Spelling.{spell, spell_atom, spell_crash}

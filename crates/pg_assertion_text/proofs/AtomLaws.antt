@@ -22,7 +22,7 @@ use Rattle.pg_assertion_text.specs.Input.{Input, Outcome, Parser, and_then, pure
 use Rattle.pg_assertion_text.specs.Reading.{start, start_by}
 use Rattle.pg_assertion_text.specs.Atoms.{equals, cell, thread, last, seen, read, two_reads, lettered, scalar_atom, raw_by, raw_atom, of_name, crash_atom, raw_items, crash_items, IsRaw, IsCrash}
 use Rattle.pg_assertion_text.specs.Laws.{FindsAtoms, ReadsAtoms, BeginsAtom, BeginsAtoms}
-use Rattle.pg_assertion_text.specs.Steps.{ok_same, bind_then, bind_value, allowed_then, next_found, stands_token, Takes, takes_one, takes_then, stand-split, node_takes, node_reads, expect_found, expect_reads, number_found, number_reads, location_found, location_reads, named_found, named_reads, scalar_in_found}
+use Rattle.pg_assertion_text.proofs.Steps.{ok_same, bind_then, bind_value, allowed_then, next_found, stands_token, Takes, takes_one, takes_then, stand-split, node_takes, node_reads, expect_found, expect_reads, number_found, number_reads, location_found, location_reads, named_found, named_reads, scalar_in_found}
 
 -- ---- what is read in the brackets stands there
 
@@ -228,7 +228,7 @@ crash_again names i (crash.Location x v) to st some =
 
 -- ---- assertions
 
--- what stands behind the letter of an atom
+-- what follows the letter of an atom
 record Behind (names : NameTable) (b : ℕ) (a : RawAtom) (i j : Input) : Type 0 where
   items : List Item
   are : raw_items a ≡ letter b ∷ items

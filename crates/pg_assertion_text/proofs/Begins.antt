@@ -12,7 +12,7 @@ use Rattle.pg_assertion_text.specs.declared.formula.Opening.{Opening}
 use Rattle.pg_assertion_text.specs.declared.formula.Opening.TheVariants.{Negation, Bracket, Constant, Atom}
 use Rattle.pg_assertion_text.specs.Input.{is_sign}
 use Rattle.pg_assertion_text.specs.Reading.{start, start_by, start_word}
-use Rattle.pg_assertion_text.specs.Steps.{is_sign_found}
+use Rattle.pg_assertion_text.proofs.Steps.{is_sign_found}
 
 pub word_of : Bool → List ℕ
 word_of true = codes "true"

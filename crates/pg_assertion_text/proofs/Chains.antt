@@ -1,5 +1,5 @@
 -- What a chain that is read so far leads to, by what its next turn meets. The turn is the i-th of n, from 0.
-use Rattle.std.proofs.Common.{◌≡◌, ℕ, zero, suc, ◌+◌, ◌-◌, ◌<◌, ◌≤◌, Ok, Err, true, false, List, [], ◌∷◌, ◌++◌, refl, ap, ◌∙◌, arith}
+use Rattle.std.proofs.Common.{◌≡◌, ℕ, ◌+◌, ◌-◌, ◌<◌, ◌≤◌, Bool, Ok, Err, true, false, List, [], ◌∷◌, ◌++◌, refl, ap}
 use Rattle.std.specs.Prelude.{if◌then◌else◌}
 use Rattle.pg_lex.specs.declared.token.Sign.{Sign}
 use Rattle.pg_lex.specs.declared.token.Sign.TheVariants.{Arrow}
@@ -9,106 +9,78 @@ use Rattle.pg_lex.specs.declared.fault.TextKind.TheVariants.{TooMany}
 use Rattle.pg_assertion.specs.Formula.{Plain, implies}
 use Rattle.pg_assertion_text.specs.Input.{Input, Outcome, Parser, and_then, ◌>>=◌, pure, goes_on}
 use Rattle.pg_assertion_text.specs.Reading.{chain_on, arrows_on, implied}
-
-turns_left : (n i : ℕ) → i < n → n - i ≡ suc (n - (i + 1))
-turns_left n i h = omega arith
-
-no_turns : (n i : ℕ) → n ≤ i → n - i ≡ zero
-no_turns n i h = omega arith
+use Rattle.pg_assertion_text.proofs.Turns.{turn, after_turn, run_out}
 
 -- ---- chains that group to the left
 
-turn : {A : Type 0} (item : Parser A) (s : Sign) (join : A → A → A) (n i : ℕ) (left : A) (t : Input) (whole : Outcome A)
-    → i < n → whole ≡ chain_on item s join (n - i) left t → whole ≡ chain_on item s join (suc (n - (i + 1))) left t
-turn item s join n i left t whole below is = is ∙ ap (λ k. chain_on item s join k left t) (turns_left n i below)
+module _ {A : Type 0} (item : Parser A) (s : Sign) (join : A → A → A) (n i : ℕ) (left : A) (t : Input) (whole : Outcome A) where
+  -- what follows the sign, or the end where there is none
+  abbrev on : Bool → Parser A
+  on more = if more then (item >>= λ right. chain_on item s join (n - (i + 1)) (join left right)) else pure left
 
--- the sign cannot be read
-pub chain_stops : {A : Type 0} (item : Parser A) (s : Sign) (join : A → A → A) (n i : ℕ) (left : A) (t : Input) (whole : Outcome A) (e : TextFault)
-    → i < n → whole ≡ chain_on item s join (n - i) left t → goes_on s t ≡ Err e → whole ≡ Err e
-unfolding chain_on
-chain_stops item s join n i left t whole e below is stops =
-    turn item s join n i left t whole below is ∙ ap (λ o. and_then o (λ more. (if more then (item >>= λ right. chain_on item s join (n - (i + 1)) (join left right)) else pure left))) stops
+  chain_turn : (o : Outcome Bool) → i < n → whole ≡ chain_on item s join (n - i) left t → goes_on s t ≡ o → whole ≡ and_then o on
+  unfolding chain_on
+  chain_turn o below is gives = turn (λ k. chain_on item s join k left t) (goes_on s t) on n i whole o refl below is gives
 
--- no sign stands there
-pub chain_ends : {A : Type 0} (item : Parser A) (s : Sign) (join : A → A → A) (n i : ℕ) (left : A) (t u : Input) (whole : Outcome A)
-    → i < n → whole ≡ chain_on item s join (n - i) left t → goes_on s t ≡ Ok (false, u) → whole ≡ Ok (left, u)
-unfolding chain_on
-chain_ends item s join n i left t u whole below is ends =
-    turn item s join n i left t whole below is ∙ ap (λ o. and_then o (λ more. (if more then (item >>= λ right. chain_on item s join (n - (i + 1)) (join left right)) else pure left))) ends
+  -- the sign cannot be read
+  pub chain_stops : (e : TextFault) → i < n → whole ≡ chain_on item s join (n - i) left t → goes_on s t ≡ Err e → whole ≡ Err e
+  chain_stops e below is stops = chain_turn (Err e) below is stops
 
--- a sign stands there, and what is behind it gives this
-goes : {A : Type 0} (item : Parser A) (s : Sign) (join : A → A → A) (n i : ℕ) (left : A) (t u : Input) (whole : Outcome A)
-    → i < n → whole ≡ chain_on item s join (n - i) left t → goes_on s t ≡ Ok (true, u)
-    → whole ≡ and_then (item u) (λ right. chain_on item s join (n - (i + 1)) (join left right))
-unfolding chain_on
-goes item s join n i left t u whole below is more =
-    turn item s join n i left t whole below is ∙ ap (λ o. and_then o (λ more. (if more then (item >>= λ right. chain_on item s join (n - (i + 1)) (join left right)) else pure left))) more
+  -- no sign stands there
+  pub chain_ends : (u : Input) → i < n → whole ≡ chain_on item s join (n - i) left t → goes_on s t ≡ Ok (false, u) → whole ≡ Ok (left, u)
+  chain_ends u below is ends = chain_turn (Ok (false, u)) below is ends
 
--- the item behind the sign cannot be read
-pub chain_fails : {A : Type 0} (item : Parser A) (s : Sign) (join : A → A → A) (n i : ℕ) (left : A) (t u : Input) (whole : Outcome A) (e : TextFault)
-    → i < n → whole ≡ chain_on item s join (n - i) left t → goes_on s t ≡ Ok (true, u) → item u ≡ Err e → whole ≡ Err e
-chain_fails item s join n i left t u whole e below is more fails =
-    goes item s join n i left t u whole below is more ∙ ap (λ o. and_then o (λ right. chain_on item s join (n - (i + 1)) (join left right))) fails
+  item_turn : (u : Input) (o : Outcome A) → i < n → whole ≡ chain_on item s join (n - i) left t → goes_on s t ≡ Ok (true, u) → item u ≡ o
+      → whole ≡ and_then o (λ right. chain_on item s join (n - (i + 1)) (join left right))
+  item_turn u o below is more gives =
+      after_turn (item u) (λ right. chain_on item s join (n - (i + 1)) (join left right)) whole o (chain_turn (Ok (true, u)) below is more) gives
 
--- an item is read
-pub chain_goes : {A : Type 0} (item : Parser A) (s : Sign) (join : A → A → A) (n i : ℕ) (left right : A) (t u v : Input) (whole : Outcome A)
-    → i < n → whole ≡ chain_on item s join (n - i) left t → goes_on s t ≡ Ok (true, u) → item u ≡ Ok (right, v)
-    → whole ≡ chain_on item s join (n - (i + 1)) (join left right) v
-chain_goes item s join n i left right t u v whole below is more read =
-    goes item s join n i left t u whole below is more ∙ ap (λ o. and_then o (λ right. chain_on item s join (n - (i + 1)) (join left right))) read
+  -- the item after the sign cannot be read
+  pub chain_fails : (u : Input) (e : TextFault) → i < n → whole ≡ chain_on item s join (n - i) left t → goes_on s t ≡ Ok (true, u) → item u ≡ Err e → whole ≡ Err e
+  chain_fails u e below is more fails = item_turn u (Err e) below is more fails
 
--- there are no turns left
-pub chain_out : {A : Type 0} (item : Parser A) (s : Sign) (join : A → A → A) (n i : ℕ) (left : A) (t : Input) (whole : Outcome A)
-    → n ≤ i → whole ≡ chain_on item s join (n - i) left t → whole ≡ Err (At 0 TooMany)
-unfolding chain_on
-chain_out item s join n i left t whole out is = is ∙ ap (λ k. chain_on item s join k left t) (no_turns n i out)
+  -- an item is read
+  pub chain_goes : (right : A) (u v : Input) → i < n → whole ≡ chain_on item s join (n - i) left t → goes_on s t ≡ Ok (true, u) → item u ≡ Ok (right, v)
+      → whole ≡ chain_on item s join (n - (i + 1)) (join left right) v
+  chain_goes right u v below is more read = item_turn u (Ok (right, v)) below is more read
+
+  -- there are no turns left
+  pub chain_out : n ≤ i → whole ≡ chain_on item s join (n - i) left t → whole ≡ Err (At 0 TooMany)
+  unfolding chain_on
+  chain_out out is = run_out (λ k. chain_on item s join k left t) n i whole out is
 
 -- ---- arrows
 
-arrow_turn : {T : Type 0} (item : Parser (Plain T)) (n i : ℕ) (fs : List (Plain T)) (t : Input) (whole : Outcome (Plain T))
-    → i < n → whole ≡ arrows_on item (n - i) fs t → whole ≡ arrows_on item (suc (n - (i + 1))) fs t
-arrow_turn item n i fs t whole below is = is ∙ ap (λ k. arrows_on item k fs t) (turns_left n i below)
+module _ {T : Type 0} (item : Parser (Plain T)) (n i : ℕ) (fs : List (Plain T)) (t : Input) (whole : Outcome (Plain T)) where
+  -- what follows an arrow after g, or the end where there is none
+  abbrev arrows_from : Plain T → Bool → Parser (Plain T)
+  arrows_from g more = if more then arrows_on item (n - (i + 1)) (fs ++ g ∷ []) else pure (implied fs g)
 
--- the next part cannot be read
-pub arrow_fails : {T : Type 0} (item : Parser (Plain T)) (n i : ℕ) (fs : List (Plain T)) (t : Input) (whole : Outcome (Plain T)) (e : TextFault)
-    → i < n → whole ≡ arrows_on item (n - i) fs t → item t ≡ Err e → whole ≡ Err e
-unfolding arrows_on
-arrow_fails item n i fs t whole e below is fails =
-    arrow_turn item n i fs t whole below is
-    ∙ ap (λ o. and_then o (λ g. goes_on Arrow >>= λ more. (if more then arrows_on item (n - (i + 1)) (fs ++ g ∷ []) else pure (implied fs g)))) fails
+  part_turn : (o : Outcome (Plain T)) → i < n → whole ≡ arrows_on item (n - i) fs t → item t ≡ o → whole ≡ and_then o (λ g. goes_on Arrow >>= arrows_from g)
+  unfolding arrows_on
+  part_turn o below is gives = turn (λ k. arrows_on item k fs t) (item t) (λ g. goes_on Arrow >>= arrows_from g) n i whole o refl below is gives
 
--- a part is read, and what is behind it gives this
-arrow_behind : {T : Type 0} (item : Parser (Plain T)) (n i : ℕ) (fs : List (Plain T)) (g : Plain T) (t u : Input) (whole : Outcome (Plain T))
-    → i < n → whole ≡ arrows_on item (n - i) fs t → item t ≡ Ok (g, u)
-    → whole ≡ and_then (goes_on Arrow u) (λ more. (if more then arrows_on item (n - (i + 1)) (fs ++ g ∷ []) else pure (implied fs g)))
-unfolding arrows_on
-arrow_behind item n i fs g t u whole below is read =
-    arrow_turn item n i fs t whole below is
-    ∙ ap (λ o. and_then o (λ g. goes_on Arrow >>= λ more. (if more then arrows_on item (n - (i + 1)) (fs ++ g ∷ []) else pure (implied fs g)))) read
+  -- the next part cannot be read
+  pub arrow_fails : (e : TextFault) → i < n → whole ≡ arrows_on item (n - i) fs t → item t ≡ Err e → whole ≡ Err e
+  arrow_fails e below is fails = part_turn (Err e) below is fails
 
-pub arrow_stops : {T : Type 0} (item : Parser (Plain T)) (n i : ℕ) (fs : List (Plain T)) (g : Plain T) (t u : Input) (whole : Outcome (Plain T)) (e : TextFault)
-    → i < n → whole ≡ arrows_on item (n - i) fs t → item t ≡ Ok (g, u) → goes_on Arrow u ≡ Err e → whole ≡ Err e
-arrow_stops item n i fs g t u whole e below is read stops =
-    arrow_behind item n i fs g t u whole below is read
-    ∙ ap (λ o. and_then o (λ more. (if more then arrows_on item (n - (i + 1)) (fs ++ g ∷ []) else pure (implied fs g)))) stops
+  arrow_turn : (g : Plain T) (u : Input) (o : Outcome Bool) → i < n → whole ≡ arrows_on item (n - i) fs t → item t ≡ Ok (g, u) → goes_on Arrow u ≡ o
+      → whole ≡ and_then o (arrows_from g)
+  arrow_turn g u o below is read gives = after_turn (goes_on Arrow u) (arrows_from g) whole o (part_turn (Ok (g, u)) below is read) gives
 
-pub arrow_ends : {T : Type 0} (item : Parser (Plain T)) (n i : ℕ) (fs : List (Plain T)) (g : Plain T) (t u v : Input) (whole : Outcome (Plain T))
-    → i < n → whole ≡ arrows_on item (n - i) fs t → item t ≡ Ok (g, u) → goes_on Arrow u ≡ Ok (false, v) → whole ≡ Ok (implied fs g, v)
-arrow_ends item n i fs g t u v whole below is read ends =
-    arrow_behind item n i fs g t u whole below is read
-    ∙ ap (λ o. and_then o (λ more. (if more then arrows_on item (n - (i + 1)) (fs ++ g ∷ []) else pure (implied fs g)))) ends
+  pub arrow_stops : (g : Plain T) (u : Input) (e : TextFault) → i < n → whole ≡ arrows_on item (n - i) fs t → item t ≡ Ok (g, u) → goes_on Arrow u ≡ Err e → whole ≡ Err e
+  arrow_stops g u e below is read stops = arrow_turn g u (Err e) below is read stops
 
-pub arrow_goes : {T : Type 0} (item : Parser (Plain T)) (n i : ℕ) (fs : List (Plain T)) (g : Plain T) (t u v : Input) (whole : Outcome (Plain T))
-    → i < n → whole ≡ arrows_on item (n - i) fs t → item t ≡ Ok (g, u) → goes_on Arrow u ≡ Ok (true, v)
-    → whole ≡ arrows_on item (n - (i + 1)) (fs ++ g ∷ []) v
-arrow_goes item n i fs g t u v whole below is read more =
-    arrow_behind item n i fs g t u whole below is read
-    ∙ ap (λ o. and_then o (λ more. (if more then arrows_on item (n - (i + 1)) (fs ++ g ∷ []) else pure (implied fs g)))) more
+  pub arrow_ends : (g : Plain T) (u v : Input) → i < n → whole ≡ arrows_on item (n - i) fs t → item t ≡ Ok (g, u) → goes_on Arrow u ≡ Ok (false, v) → whole ≡ Ok (implied fs g, v)
+  arrow_ends g u v below is read ends = arrow_turn g u (Ok (false, v)) below is read ends
 
-pub arrow_out : {T : Type 0} (item : Parser (Plain T)) (n i : ℕ) (fs : List (Plain T)) (t : Input) (whole : Outcome (Plain T))
-    → n ≤ i → whole ≡ arrows_on item (n - i) fs t → whole ≡ Err (At 0 TooMany)
-unfolding arrows_on
-arrow_out item n i fs t whole out is = is ∙ ap (λ k. arrows_on item k fs t) (no_turns n i out)
+  pub arrow_goes : (g : Plain T) (u v : Input) → i < n → whole ≡ arrows_on item (n - i) fs t → item t ≡ Ok (g, u) → goes_on Arrow u ≡ Ok (true, v)
+      → whole ≡ arrows_on item (n - (i + 1)) (fs ++ g ∷ []) v
+  arrow_goes g u v below is read more = arrow_turn g u (Ok (true, v)) below is read more
+
+  pub arrow_out : n ≤ i → whole ≡ arrows_on item (n - i) fs t → whole ≡ Err (At 0 TooMany)
+  unfolding arrows_on
+  arrow_out out is = run_out (λ k. arrows_on item k fs t) n i whole out is
 
 -- one premise more, the last
 pub implied-append : {T : Type 0} (fs : List (Plain T)) (f g : Plain T) → implied (fs ++ f ∷ []) g ≡ implied fs (implies f g)

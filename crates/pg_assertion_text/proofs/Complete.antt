@@ -15,7 +15,7 @@ use Rattle.pg_assertion_text.specs.Grammar.{Rule, Is, a_true, a_false, an_atom, 
 use Rattle.pg_assertion_text.specs.Grammar as g
 use Rattle.pg_assertion_text.specs.Follows.{Leaves, Stops}
 use Rattle.pg_assertion_text.specs.Laws.{BeginsAtom}
-use Rattle.pg_assertion_text.specs.Steps.{bind_value, peek_reads, stands_token, node_reads, expect_reads, goes_on_reads, goes_on_leaves}
+use Rattle.pg_assertion_text.proofs.Steps.{bind_value, peek_reads, stands_token, node_reads, expect_reads, goes_on_reads, goes_on_leaves}
 use Rattle.pg_assertion_text.proofs.Chains.{implied-append}
 use Rattle.pg_assertion_text.proofs.Begins.{negation_begins, bracket_begins, true_begins, false_begins}
 
@@ -109,7 +109,7 @@ unfolding operand
 opened read below i t o is begins =
     bind_value (peek i) _ t i (peek_reads i t is) ∙ ap (λ o. operand_by read below o t.place i) begins
 
--- a node and its token, with what is behind them
+-- a node and its token, with what follows them
 counted : {B : Type 0} (names : NameTable) (item : Item) (from to : Cursor) (r : ℕ) (st : Stands names item from to) (behind : Parser B) → 0 < r
     → and_then (and_then (node st.lexeme.place (at from r)) (λ u. next)) (λ w. behind) ≡ behind (at to (r - 1))
 counted names item from to r st behind some =

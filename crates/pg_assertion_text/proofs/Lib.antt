@@ -1,4 +1,8 @@
 mod Texts
+mod Reserved
+pub mod Turns
+pub mod Steps
+pub mod AtomLaws
 pub mod Names
 pub mod Within
 mod Chains

@@ -13,7 +13,7 @@ use Rattle.pg_assertion_text.specs.Input.{Input, Parser, and_then, pure, peek, n
 use Rattle.pg_assertion_text.specs.Reading.{chain_on, chain, implied, arrows_on, arrows, conjunction, disjunction, formula_of, start, truth, deeper, negated, bracketed, operand_by, operand, unary}
 use Rattle.pg_assertion_text.specs.Grammar as g
 use Rattle.pg_assertion_text.specs.Grammar.{Rule, Is}
-use Rattle.pg_assertion_text.specs.Steps.{ok_same, bind_then, next_found, peek_found, node_found, Takes, expect_found, goes_on_found, goes_on_stops}
+use Rattle.pg_assertion_text.proofs.Steps.{ok_same, bind_then, next_found, peek_found, node_found, Takes, expect_found, goes_on_found, goes_on_stops}
 use Rattle.pg_assertion_text.proofs.Chains.{implied-append}
 use Rattle.pg_assertion_text.proofs.Begins.{Opens, opens}
 
@@ -24,7 +24,7 @@ pub record Found {T : Type 0} (names : NameTable) (IsAtom : Cursor → T → Cur
 
 -- ---- chains
 
--- one more turn, where the turns behind it are known
+-- one more turn, where the turns after it are known
 turn_found : {A : Type 0} (names : NameTable) (item : Parser A) (z : Sign) (join : A → A → A) (Part Whole : Input → A → Input → Type 0)
     → ((i j : Input) (a : A) → item i ≡ Ok (a, j) → Part i a j)
     → ((i j k l : Input) (a b : A) → Whole i a j → Takes names (sign z ∷ []) 1 j k → Part k b l → Whole i (join a b) l)
@@ -84,7 +84,7 @@ disjunction_found names IsAtom n u part i j f h =
 
 -- ---- arrows
 
--- the last part of what was read, behind the premises
+-- the last part of what was read, after the premises
 record Led {T : Type 0} (names : NameTable) (IsAtom : Cursor → T → Cursor → Type 0) (n : ℕ) (fs : List (Plain T)) (i : Input) (f : Plain T) (j : Input) : Type 0 where
   last : Plain T
   is : f ≡ implied fs last

@@ -1,4 +1,4 @@
--- What a text spells stands where the text leads, whatever stands behind it; blanks in front are passed over.
+-- What a text spells stands where the text leads, whatever follows it; blanks in front are passed over.
 use Rattle.std.proofs.Common.{◌≡◌, ℕ, Bool, ◌==◌, ◌+◌, ◌≤◌, false, true, List, [], ◌∷◌, ◌++◌, length, drop, refl, sym, ap, ap₂, subst, ◌∙◌, arith, append_assoc, length-append, lit≤}
 use Rattle.std.specs.Prelude.{codes, slice_index, Some}
 use Rattle.pg_lex.specs.declared.token.Sign.{Sign}
@@ -18,7 +18,7 @@ use Rattle.pg_assertion_text.specs.SpellingLaws.{cursor}
 
 -- ---- places of a text with the same token in front
 
--- behind the blanks and comments both are at one place
+-- after the blanks and comments both are at one place
 pub record Leads (from c : Cursor) : Type 0 where
   pub same : behind_gap from ≡ behind_gap c
 
@@ -41,7 +41,7 @@ past_blank at rest =
 
 -- ---- spelling
 
--- the text, with such a text behind it, leads from one place to another in this way
+-- the text, with such a text after it, leads from one place to another in this way
 pub record Spells (Before : List ℕ → Type 0) (X : Cursor → Cursor → Type 0) (w : List ℕ) : Type 0 where
   pub stands : (from : Cursor) (at : ℕ) (more : List ℕ) → Before more → Leads from (cursor at (w ++ more)) → X from (cursor (at + length w) more)
 
@@ -75,7 +75,7 @@ pub mapped : {P : List ℕ → Type 0} {X Y : Cursor → Cursor → Type 0} {w :
     → Spells P X w → ((from to : Cursor) → X from to → Y from to) → Spells P Y w
 mapped {P} {X} {Y} {w} a f = record { stands = λ from at more ok leads. f from (cursor (at + length w) more) (a.stands from at more ok leads) }
 
--- where anything may stand behind, so may what is asked for
+-- where anything may follow, so may what is asked for
 pub widened : {P : List ℕ → Type 0} {X : Cursor → Cursor → Type 0} {w : List ℕ} → Spells Anything X w → Spells P X w
 widened a = record { stands = λ from at more ok leads. a.stands from at more tt leads }
 

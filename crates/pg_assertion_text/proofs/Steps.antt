@@ -45,7 +45,7 @@ pub allowed_then : {A : Type 0} {X : Type 0} (p : ℕ) (r : Result A TextKind) (
 allowed_then p (Ok a) i q h use_it = use_it a refl (ok_same (a, i) q h)
 allowed_then p (Err why) i q h use_it = absurd (no_value (At p why) q h)
 
--- what is behind a step that gives a value
+-- what follows a step that gives a value
 pub bind_value : {A B : Type 0} (o : Outcome A) (f : A → Parser B) (a : A) (j : Input) → o ≡ Ok (a, j) → and_then o f ≡ f a j
 bind_value o f a j h = ap (λ o. and_then o f) h
 
@@ -116,7 +116,7 @@ takes_then {names} {is} {js} {m} {n} {i} {j} {k} a b = record {
   room = let ar = a.room in let br = b.room in omega arith;
 }
 
--- a number of nodes, and items behind it
+-- a number of nodes, and items after it
 pub node_found : (p : ℕ) (i j : Input) (u : Unit {0}) → node p i ≡ Ok (u, j) → (j.cursor ≡ i.cursor) × (i.room ≡ j.room + 1)
 unfolding node
 node_found p i j u h = by (i.room == 0) refl h

@@ -1,4 +1,4 @@
--- Behind a formula that was read there stands a token that no formula goes on with.
+-- After a formula that was read there stands a token that no formula goes on with.
 use Rattle.std.proofs.Common.{◌≡◌, ℕ, zero, suc, ◌+◌, Bool, true, false, Ok, List, [], ◌∷◌, ◌++◌, refl, ap, sym, ◌∙◌, subst}
 use Rattle.std.specs.Prelude.{if◌then◌else◌}
 use Rattle.pg_lex.specs.declared.token.Sign.{Sign}
@@ -8,7 +8,7 @@ use Rattle.pg_assertion.specs.Formula.{Plain, both, either}
 use Rattle.pg_assertion_text.specs.Input.{Input, Outcome, Parser, and_then, ◌>>◌, pure, peek, next, node, goes_on, is_sign}
 use Rattle.pg_assertion_text.specs.Reading.{chain_on, chain, implied, arrows_on, arrows, conjunction, disjunction, formula_of}
 use Rattle.pg_assertion_text.specs.Follows.{Leaves, Stops}
-use Rattle.pg_assertion_text.specs.Steps.{ok_same, same_lexeme, bind_then, peek_found, goes_on_stops}
+use Rattle.pg_assertion_text.proofs.Steps.{ok_same, same_lexeme, bind_then, peek_found, goes_on_stops}
 
 sign_leaves : (z : Sign) (i j : Input) → goes_on z i ≡ Ok (false, j) → Leaves z j.cursor
 unfolding goes_on
@@ -24,7 +24,7 @@ sign_leaves z i j h =
         bind_then (and_then (node t.place k) (λ u. next)) (λ u. pure true) (false, j) g (λ l m two last.
         let wrong = ap (λ (q : Bool × Input). q.0) (ok_same (true, m) (false, j) last) in cc)
 
--- what holds behind an item holds behind the chain, and no sign of the chain stands there
+-- what holds after an item holds after the chain, and no sign of the chain stands there
 chain_on_stopped : {A : Type 0} (item : Parser A) (z : Sign) (join : A → A → A) (Q : Input → Type 0) → ((i j : Input) (a : A) → item i ≡ Ok (a, j) → Q j)
     → (n : ℕ) (left whole : A) (t j : Input) → Q t → chain_on item z join n left t ≡ Ok (whole, j) → Q j × Leaves z j.cursor
 unfolding chain_on

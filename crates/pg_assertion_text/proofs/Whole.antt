@@ -18,11 +18,11 @@ use Rattle.pg_assertion_text.proofs.Sound.{formula_found}
 use Rattle.pg_assertion_text.proofs.Stopped.{formula_stopped}
 use Rattle.pg_assertion_text.proofs.Complete.{at, formula_reads}
 
-same_result : {A : Type 0} (p q : A × Cursor) → ◌≡◌ {A = Result (A × Cursor) TextFault} (Ok p) (Ok q) → p ≡ q
+pub same_result : {A : Type 0} (p q : A × Cursor) → ◌≡◌ {A = Result (A × Cursor) TextFault} (Ok p) (Ok q) → p ≡ q
 same_result {A} p q h = let value : Result (A × Cursor) TextFault → A × Cursor = λ r. result_unwrap_or r p in ap value h
 
 -- an outcome that gives a formula, and where it stands then
-placed_then : {A X : Type 0} (o : Outcome A) (a : A) (to : Cursor) → placed o ≡ Ok (a, to) → ((j : Input) → o ≡ Ok (a, j) → j.cursor ≡ to → X) → X
+pub placed_then : {A X : Type 0} (o : Outcome A) (a : A) (to : Cursor) → placed o ≡ Ok (a, to) → ((j : Input) → o ≡ Ok (a, j) → j.cursor ≡ to → X) → X
 placed_then {A} (Ok p) a to h use_it =
     let same = same_result (p.0, p.1.cursor) (a, to) h in
     use_it p.1 (ap (λ x. Ok (x, p.1)) (ap (λ (q : A × Cursor). q.0) same)) (ap (λ (q : A × Cursor). q.1) same)

@@ -21,7 +21,7 @@ use Rattle.pg_assertion_text.specs.Input.{Parser, ◌>>=◌, ◌>>◌, pure, ref
 
 -- ---- the grammar
 
--- what stands in the brackets of an atom, with a comma between and the closing bracket behind
+-- what stands in the brackets of an atom, with a comma between two and the closing bracket at the end
 abbrev pub listed : List Item → List Item
 listed [] = sign s.Close ∷ []
 listed (i ∷ []) = i ∷ sign s.Close ∷ []
@@ -99,7 +99,7 @@ two_reads names = do
   d ← (expect s.Comma >> cell names)
   (expect s.Close >> pure (t, c, d))
 
--- what stands behind the letter of an atom
+-- what follows the letter of an atom
 abbrev pub lettered : NameTable → ℕ → ℕ → Parser RawAtom
 lettered names place b =
     if b == 76 then last names >>= (λ c. pure (raw.Last c.0 c.1))

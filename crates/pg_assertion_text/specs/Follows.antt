@@ -1,4 +1,4 @@
--- What may stand behind a formula that is read whole.
+-- What may stand after a formula that is read whole.
 use Rattle.std.specs.Prelude.{◌≡◌, false, Ok}
 use Rattle.pg_lex.specs.declared.token.Sign.{Sign}
 use Rattle.pg_lex.specs.declared.token.Sign.TheVariants.{And, Or, Arrow}

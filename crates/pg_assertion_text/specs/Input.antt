@@ -14,7 +14,7 @@ use Rattle.pg_program.specs.declared.name_table.NameRef.{NameRef}
 use Rattle.pg_program.specs.declared.name_table.NameRef.TheVariants as place
 use Rattle.pg_assertion_text.specs.Words.{is_reserved, same_sign}
 
--- the place behind what was read, and how many nodes may still come
+-- the place after what was read, and how many nodes may still come
 pub record Input : Type 0 where
   pub cursor : Cursor
   pub room : ℕ

@@ -7,8 +7,6 @@ pub mod Follows
 pub mod Parsing
 pub mod Laws
 pub mod Below
-pub mod Steps
-pub mod AtomLaws
 pub mod Spelling
 pub mod Parts
 pub mod SpellingLaws

@@ -36,7 +36,7 @@ abbrev pub placed : {A : Type 0} → Outcome A → Result (A × Cursor) TextFaul
 placed (Ok p) = Ok (p.0, p.1.cursor)
 placed (Err e) = Err e
 
--- the formula at a place and the place behind it, or the first fault
+-- the formula at a place and the place after it, or the first fault
 unfoldable pub formula_at : {T : Type 0} → (NameTable → Parser T) → NameTable → Cursor → Result (Plain T × Cursor) TextFault
 formula_at read names c = placed (formula (read names) MAX_OPEN (record { cursor = c; room = MAX_NODES }))
 

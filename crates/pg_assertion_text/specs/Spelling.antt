@@ -1,4 +1,4 @@
--- The canonical spelling of formulas: one blank on each side of a sign, none behind `!`, and brackets just where the
+-- The canonical spelling of formulas: one blank on each side of a sign, none after `!`, and brackets just where the
 -- formula would be read otherwise.
 use Rattle.std.specs.Prelude.{◌≡◌, ℕ, ◌+◌, ◌^◌, ◌<◌, ◌≤◌, max, Bool, true, false, nat_lt, List, [], ◌∷◌, ◌++◌, length, codes, decimal, All, option_map, unwrap_or, slice_get}
 use Rattle.pg_lex.specs.Piece.{is_lower, is_word}

@@ -20,7 +20,7 @@ IsWritable names a = NamesDeclared names a × NumbersFit a
 abbrev pub IsWritableCrash : NameTable → CrashAtom → Type 0
 IsWritableCrash names a = CrashDeclared names a × CrashFits a
 
--- Behind the spelling there may stand what no word goes on with.
+-- After the spelling there may stand what no word goes on with.
 abbrev pub SpellingStands : Type 0
 SpellingStands =
     (names : NameTable) (f : Plain ViewAtom) (n at : ℕ) (more : List ℕ)

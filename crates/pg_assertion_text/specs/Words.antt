@@ -46,14 +46,14 @@ Matches names (word w) l = (l.kind ≡ kind.Word) × (l.text ≡ w)
 Matches names (location x) l = (l.kind ≡ kind.Word) × (is_reserved l.text ≡ false) × (find l.text names ≡ Some (place.Location x))
 Matches names (scalar r) l = (l.kind ≡ kind.Word) × (is_reserved l.text ≡ false) × (find l.text names ≡ Some (place.Scalar r))
 
--- the next token at a place is that item, and another place is behind it
+-- the next token at a place is that item, and the other place is the one after it
 pub record Stands (names : NameTable) (item : Item) (from to : Cursor) : Type 0 where
   pub lexeme : Lexeme
   pub read : token from ≡ Ok lexeme
   pub matches : Matches names item lexeme
   pub behind : to ≡ after from
 
--- items, one behind the other
+-- items, one after the other
 abbrev pub Stand : NameTable → List Item → Cursor → Cursor → Type 0
 Stand names [] from to = to ≡ from
 Stand names (i ∷ is) from to = (mid : Cursor) × Stands names i from mid × Stand names is mid to

@@ -93,7 +93,7 @@ fn two_reads(
     Ok((t, first, second))
 }
 
-/// What stands behind the letter of an atom, which stands at this place.
+/// What follows the letter of an atom, which stands at this place.
 fn lettered(
     tokens: &mut Tokens<'_>,
     names: &Names,
@@ -168,26 +168,22 @@ pub trait ReadAtom: Drop {
     fn read(tokens: &mut Tokens<'_>, names: &Names) -> Result<Self, TextFault>
         ensures { Does (λ a. a) (read names.now tokens.old) result tokens.new };
 
-    ghost found: { FindsAtoms read stands };
-
-    ghost again: { ReadsAtoms read stands };
-
-    ghost begins: { BeginsAtoms stands };
+    /// Its reader and its grammar agree. The call does nothing: its contract is the law that formulas over such
+    /// atoms rest on.
+    fn agrees()
+        ensures found { FindsAtoms read stands }
+        ensures again { ReadsAtoms read stands }
+        ensures begins { BeginsAtoms stands };
 }
 
 impl ReadAtom for RawAtom {
     ghost use Rattle.pg_assertion_text.specs.Atoms.{raw_atom, IsRaw};
-    ghost use Rattle.pg_assertion_text.specs.AtomLaws.{raw_found, raw_again, raw_begins};
 
     ghost read = { raw_atom };
 
     ghost stands = { IsRaw };
 
-    ghost found = { raw_found };
-
-    ghost again = { raw_again };
-
-    ghost begins = { raw_begins };
+    fn agrees() {}
 
     #[tactic(auto, unfolding(crate::specs::Atoms::raw_atom))]
     fn read(tokens: &mut Tokens<'_>, names: &Names) -> Result<RawAtom, TextFault> {
@@ -205,17 +201,12 @@ impl ReadAtom for RawAtom {
 
 impl ReadAtom for CrashAtom {
     ghost use Rattle.pg_assertion_text.specs.Atoms.{crash_atom, IsCrash};
-    ghost use Rattle.pg_assertion_text.specs.AtomLaws.{crash_found, crash_again, crash_begins};
 
     ghost read = { crash_atom };
 
     ghost stands = { IsCrash };
 
-    ghost found = { crash_found };
-
-    ghost again = { crash_again };
-
-    ghost begins = { crash_begins };
+    fn agrees() {}
 
     #[tactic(auto, unfolding(crate::specs::Atoms::crash_atom))]
     fn read(tokens: &mut Tokens<'_>, names: &Names) -> Result<CrashAtom, TextFault> {

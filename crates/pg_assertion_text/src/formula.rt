@@ -14,7 +14,7 @@ use pg_program::Names;
 use std::alloc::{AllocError, Global};
 
 /// What a token begins.
-#[derive(Clone, Copy, Debug, PartialEq, Eq)]
+#[derive(Clone, Copy)]
 enum Opening {
     Negation,
     Bracket,
@@ -173,7 +173,7 @@ fn operand<T: ReadAtom>(
     }
 }
 
-/// What stands behind a `!`, which stands at this place.
+/// What follows a `!`, which stands at this place.
 #[cycle(formula)]
 fn negation<T: ReadAtom>(
     alloc: Global,
@@ -192,7 +192,7 @@ fn negation<T: ReadAtom>(
     Ok(Formula::not(alloc, f)?)
 }
 
-/// What stands behind a `(`, which stands at this place, and the `)`.
+/// What follows a `(`, which stands at this place, and the `)`.
 #[cycle(formula)]
 fn bracketed<T: ReadAtom>(
     alloc: Global,

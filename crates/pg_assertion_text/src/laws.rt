@@ -1,5 +1,5 @@
-//! What holds of every text, by the definitions that the readers answer by. No function here does anything: its contract is
-//! the law.
+//! What holds of every text, by the definitions that the readers answer by. No function here does anything: its
+//! contract is the law.
 
 ghost use Rattle.pg_assertion_text.specs.Parsing.{HasOneReading};
 ghost use Rattle.pg_assertion_text.specs.SpellingLaws.{SpellingStands, CrashSpellingStands};
@@ -11,11 +11,13 @@ use crate::atoms::ReadAtom;
 /// From a place of a text there is at most one formula to read, and it ends at one place.
 pub fn a_formula_has_one_reading<T: ReadAtom>()
     ensures { HasOneReading T.stands }
-{}
+{
+    T::agrees();
+}
 
 /// The spelling of an assertion is a formula of the grammar, and stands for that assertion: where the declared names are
 /// names of the grammar, each number is below 2^32, no more brackets and `!` are open at once than may be, and no word
-/// goes on behind it.
+/// goes on with it.
 pub fn spelling_stands()
     ensures { SpellingStands }
 {}

@@ -1,8 +1,8 @@
 //! Texts of formulas: reading them from a lexer, and printing them in their canonical spelling.
 //!
 //! What the crate promises the layer above: `parse_formula` and `parse_crash` give the formula that the grammar
-//! (`specs/Grammar.antt`) has at the lexer's place, no more and no less, and the lexer stands behind it then. The token
-//! behind the formula is read only so far as to see that no formula goes on with it. Where there is no formula, the
+//! (`specs/Grammar.antt`) has at the lexer's place, no more and no less, and the lexer stands after it then. The token
+//! after the formula is read only so far as to see that no formula goes on with it. Where there is no formula, the
 //! answer is the first fault of the text, and the lexer stays where it stood. `print_formula` and `print_crash` append the
 //! canonical spelling (`specs/Spelling.antt`), with brackets just where the formula would be read otherwise; want of
 //! memory leaves the text as it was, and reading what was printed gives the formula again. The laws in `laws` say of the

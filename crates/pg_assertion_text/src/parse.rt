@@ -22,8 +22,8 @@ pub const MAX_NODES: u32 = 512;
 /// How many brackets and `!` of a formula may be open at once.
 pub const MAX_OPEN: u32 = 32;
 
-/// Reads the formula of an assertion at the lexer's place, as long as tokens go on with it. The lexer stands behind it then,
-/// and after a refusal where it stood.
+/// Reads the formula of an assertion at the lexer's place, as long as tokens go on with it. The lexer stands after it
+/// then, and where it stood if the text is refused.
 ///
 /// A fault is the first one of the text: a token that cannot stand there (`Unexpected`), a name that is not declared
 /// (`UnknownName`), the token of node 513 (`TooMany`), the 33rd `(` or `!` that is open (`TooDeep`), or a token that the lexer refuses.
@@ -65,6 +65,7 @@ fn parsed<T: ReadAtom>(
     ensures exact { ReadsAt (formula_at T.read names.now lexer.old) result lexer.new }
     ensures err { OnErr result (lexer.new ≡ lexer.old) }
 {
+    T::agrees();
     read_whole(alloc, lexer, names)
 }
 

@@ -1,4 +1,4 @@
-//! Formulas, printed in their canonical spelling: one blank on each side of a sign, none behind `!`, and brackets just
+//! Formulas, printed in their canonical spelling: one blank on each side of a sign, none after `!`, and brackets just
 //! where the formula would be read otherwise.
 
 ghost use Rattle.std.specs.Prelude.{◌≡◌, ◌<◌, ◌++◌, [], ◌∷◌, length, decimal, codes, OnOk, OnErr};
@@ -14,7 +14,7 @@ use pg_program::Names;
 use std::alloc::AllocError;
 
 /// What a part of a formula has to be in the grammar.
-#[derive(Clone, Copy, Debug, PartialEq, Eq)]
+#[derive(Clone, Copy)]
 enum Part {
     Unary,
     Conj,

@@ -10,33 +10,35 @@ use pg_lex::{Lexer, Sign, TextFault, TextKind, Token, TokenKind};
 use pg_program::{NameRef, Names};
 use std::marker::Model;
 
+/// The words that are no names.
+const RESERVED: [&str; 19] = [
+    "pierogi",
+    "values",
+    "location",
+    "register",
+    "of",
+    "auxiliary",
+    "pre",
+    "crash",
+    "thread",
+    "if",
+    "else",
+    "while",
+    "mfence",
+    "sfence",
+    "flush",
+    "flushopt",
+    "cas",
+    "true",
+    "false",
+];
+
 /// Whether a word is no name.
 #[tactic(auto, unfolding(crate::specs::Words::is_reserved))]
 pub fn is_reserved(word: &str) -> bool
     ensures { result ≡ is_reserved word.now }
 {
-    matches!(
-        word,
-        "pierogi"
-            | "values"
-            | "location"
-            | "register"
-            | "of"
-            | "auxiliary"
-            | "pre"
-            | "crash"
-            | "thread"
-            | "if"
-            | "else"
-            | "while"
-            | "mfence"
-            | "sfence"
-            | "flush"
-            | "flushopt"
-            | "cas"
-            | "true"
-            | "false"
-    )
+    RESERVED.contains(&word)
 }
 
 /// Reads tokens one by one. Contracts see it as an `Input`.
@@ -67,7 +69,7 @@ impl<'a> Tokens<'a> {
         }
     }
 
-    /// A lexer at the place behind what was read.
+    /// A lexer at the place after what was read.
     pub fn lexer(&self) -> Lexer<'a>
         ensures { result ≡ self.now.cursor }
     {

@@ -29,19 +29,19 @@ conjunction-returns-in_err-goes_on g t c =
 
 pub conjunction-returns-then-not-branch : goal.conjunction-returns-then-not-branch
 conjunction-returns-then-not-branch g t c =
-    chain_ends (spec.unary (g.T.ReadAtom.read c.args.names.now) c.args.levels) And both c.turns-i-end.result c.signs._i (plain c.signs.left) c.signs.tokens c.goes_on.new.self _ c.signs-test.true c.signs.invariant
+    chain_ends (spec.unary (g.T.ReadAtom.read c.args.names.now) c.args.levels) And both c.turns-i-end.result c.signs._i (plain c.signs.left) c.signs.tokens _ c.goes_on.new.self c.signs-test.true c.signs.invariant
     (c.in_ok-goes_on.ensures ∙ ap (λ b. Ok (b, c.goes_on.new.self)) c.if-not-branch.true)
 
 pub conjunction-returns-in_err-right : goal.conjunction-returns-in_err-right
 conjunction-returns-in_err-right g t c =
     let fails = λ (memory : c.in_err-right.field-0.0 ≢ NoMemory).
-    chain_fails (spec.unary (g.T.ReadAtom.read c.args.names.now) c.args.levels) And both c.turns-i-end.result c.signs._i (plain c.signs.left) c.signs.tokens c.goes_on.new.self _ _ c.signs-test.true c.signs.invariant
+    chain_fails (spec.unary (g.T.ReadAtom.read c.args.names.now) c.args.levels) And both c.turns-i-end.result c.signs._i (plain c.signs.left) c.signs.tokens _ c.goes_on.new.self _ c.signs-test.true c.signs.invariant
     (c.in_ok-goes_on.ensures ∙ ap (λ b. Ok (b, c.goes_on.new.self)) c.if-not-branch.false) (c.in_err-right.ensures memory) in
     search rules
 
 pub conjunction-signs-preserved : goal.conjunction-signs-preserved
 conjunction-signs-preserved g t c =
-    chain_goes (spec.unary (g.T.ReadAtom.read c.args.names.now) c.args.levels) And both c.turns-i-end.result c.signs._i (plain c.signs.left) (plain c.in_ok-right.right) c.signs.tokens c.goes_on.new.self c.unary-in-signs.new.tokens _ c.signs-test.true c.signs.invariant
+    chain_goes (spec.unary (g.T.ReadAtom.read c.args.names.now) c.args.levels) And both c.turns-i-end.result c.signs._i (plain c.signs.left) c.signs.tokens _ (plain c.in_ok-right.right) c.goes_on.new.self c.unary-in-signs.new.tokens c.signs-test.true c.signs.invariant
     (c.in_ok-goes_on.ensures ∙ ap (λ b. Ok (b, c.goes_on.new.self)) c.if-not-branch.false) c.in_ok-right.ensures
     ∙ ap (λ f. spec.chain_on (spec.unary (g.T.ReadAtom.read c.args.names.now) c.args.levels) And both (c.turns-i-end.result - (c.signs._i + 1)) f c.unary-in-signs.new.tokens) (sym c.in_ok-left-2.ensures)
 
@@ -56,19 +56,19 @@ disjunction-returns-in_err-goes_on g t c =
 
 pub disjunction-returns-then-not-branch : goal.disjunction-returns-then-not-branch
 disjunction-returns-then-not-branch g t c =
-    chain_ends (spec.conjunction (spec.unary (g.T.ReadAtom.read c.args.names.now) c.args.levels)) Or either c.turns-i-end.result c.signs._i (plain c.signs.left) c.signs.tokens c.goes_on.new.self _ c.signs-test.true c.signs.invariant
+    chain_ends (spec.conjunction (spec.unary (g.T.ReadAtom.read c.args.names.now) c.args.levels)) Or either c.turns-i-end.result c.signs._i (plain c.signs.left) c.signs.tokens _ c.goes_on.new.self c.signs-test.true c.signs.invariant
     (c.in_ok-goes_on.ensures ∙ ap (λ b. Ok (b, c.goes_on.new.self)) c.if-not-branch.true)
 
 pub disjunction-returns-in_err-right : goal.disjunction-returns-in_err-right
 disjunction-returns-in_err-right g t c =
     let fails = λ (memory : c.in_err-right.field-0.0 ≢ NoMemory).
-    chain_fails (spec.conjunction (spec.unary (g.T.ReadAtom.read c.args.names.now) c.args.levels)) Or either c.turns-i-end.result c.signs._i (plain c.signs.left) c.signs.tokens c.goes_on.new.self _ _ c.signs-test.true c.signs.invariant
+    chain_fails (spec.conjunction (spec.unary (g.T.ReadAtom.read c.args.names.now) c.args.levels)) Or either c.turns-i-end.result c.signs._i (plain c.signs.left) c.signs.tokens _ c.goes_on.new.self _ c.signs-test.true c.signs.invariant
     (c.in_ok-goes_on.ensures ∙ ap (λ b. Ok (b, c.goes_on.new.self)) c.if-not-branch.false) (c.in_err-right.ensures memory) in
     search rules
 
 pub disjunction-signs-preserved : goal.disjunction-signs-preserved
 disjunction-signs-preserved g t c =
-    chain_goes (spec.conjunction (spec.unary (g.T.ReadAtom.read c.args.names.now) c.args.levels)) Or either c.turns-i-end.result c.signs._i (plain c.signs.left) (plain c.in_ok-right.right) c.signs.tokens c.goes_on.new.self c.conjunction-in-signs.new.tokens _ c.signs-test.true c.signs.invariant
+    chain_goes (spec.conjunction (spec.unary (g.T.ReadAtom.read c.args.names.now) c.args.levels)) Or either c.turns-i-end.result c.signs._i (plain c.signs.left) c.signs.tokens _ (plain c.in_ok-right.right) c.goes_on.new.self c.conjunction-in-signs.new.tokens c.signs-test.true c.signs.invariant
     (c.in_ok-goes_on.ensures ∙ ap (λ b. Ok (b, c.goes_on.new.self)) c.if-not-branch.false) c.in_ok-right.ensures
     ∙ ap (λ f. spec.chain_on (spec.conjunction (spec.unary (g.T.ReadAtom.read c.args.names.now) c.args.levels)) Or either (c.turns-i-end.result - (c.signs._i + 1)) f c.conjunction-in-signs.new.tokens) (sym c.in_ok-left-2.ensures)
 
@@ -84,18 +84,18 @@ formula-returns-in_err-last g t c =
 
 pub formula-returns-in_err-goes_on : goal.formula-returns-in_err-goes_on
 formula-returns-in_err-goes_on g t c =
-    let fails = arrow_stops (spec.disjunction (spec.unary (g.T.ReadAtom.read c.args.names.now) c.args.levels)) c.turns-i-end.result c.arrows._i (map plain c.arrows.premises.items) (plain c.in_ok-last.last) c.arrows.tokens c.disjunction.new.tokens _ _ c.arrows-test.true c.arrows.invariant c.in_ok-last.ensures c.in_err-goes_on.ensures in
+    let fails = arrow_stops (spec.disjunction (spec.unary (g.T.ReadAtom.read c.args.names.now) c.args.levels)) c.turns-i-end.result c.arrows._i (map plain c.arrows.premises.items) c.arrows.tokens _ (plain c.in_ok-last.last) c.disjunction.new.tokens _ c.arrows-test.true c.arrows.invariant c.in_ok-last.ensures c.in_err-goes_on.ensures in
     search rules
 
 pub formula-returns-then-not-branch : goal.formula-returns-then-not-branch
 formula-returns-then-not-branch g t c =
-    arrow_ends (spec.disjunction (spec.unary (g.T.ReadAtom.read c.args.names.now) c.args.levels)) c.turns-i-end.result c.arrows._i (map plain c.arrows.premises.items) (plain c.in_ok-last.last) c.arrows.tokens c.disjunction.new.tokens c.goes_on.new.self _ c.arrows-test.true c.arrows.invariant c.in_ok-last.ensures
+    arrow_ends (spec.disjunction (spec.unary (g.T.ReadAtom.read c.args.names.now) c.args.levels)) c.turns-i-end.result c.arrows._i (map plain c.arrows.premises.items) c.arrows.tokens _ (plain c.in_ok-last.last) c.disjunction.new.tokens c.goes_on.new.self c.arrows-test.true c.arrows.invariant c.in_ok-last.ensures
     (c.in_ok-goes_on.ensures ∙ ap (λ b. Ok (b, c.goes_on.new.self)) c.if-not-branch.true)
     ∙ ap (λ f. Ok (f, c.goes_on.new.self)) (sym c.in_ok-implied.ensures)
 
 pub formula-arrows-preserved : goal.formula-arrows-preserved
 formula-arrows-preserved g t c =
-    arrow_goes (spec.disjunction (spec.unary (g.T.ReadAtom.read c.args.names.now) c.args.levels)) c.turns-i-end.result c.arrows._i (map plain c.arrows.premises.items) (plain c.in_ok-last.last) c.arrows.tokens c.disjunction.new.tokens c.goes_on.new.self _ c.arrows-test.true c.arrows.invariant c.in_ok-last.ensures
+    arrow_goes (spec.disjunction (spec.unary (g.T.ReadAtom.read c.args.names.now) c.args.levels)) c.turns-i-end.result c.arrows._i (map plain c.arrows.premises.items) c.arrows.tokens _ (plain c.in_ok-last.last) c.disjunction.new.tokens c.goes_on.new.self c.arrows-test.true c.arrows.invariant c.in_ok-last.ensures
     (c.in_ok-goes_on.ensures ∙ ap (λ b. Ok (b, c.goes_on.new.self)) c.if-not-branch.false)
     ∙ ap (λ fs. spec.arrows_on (spec.disjunction (spec.unary (g.T.ReadAtom.read c.args.names.now) c.args.levels)) (c.turns-i-end.result - (c.arrows._i + 1)) fs c.goes_on.new.self)
     (sym (ap (map plain) c.in_ok-push.ensures.items ∙ map-append plain c.arrows.premises.items (c.in_ok-last.last ∷ [])))
