@@ -26,7 +26,7 @@ joined_all-append b (f ∷ fs) gs = joined_all-append (Some (joined b f)) fs gs
 abbrev pub vectors_below : ℕ → ℕ → ℕ → List ℕ → List (List (ℕ × ℕ))
 vectors_below d n x xs = flat_map (λ v. map (λ w. (x, v) ∷ w) (vectors d xs)) (range_with_len 0 n)
 
--- their terms behind c
+-- their terms, after the choice c
 abbrev pub terms_below : ℕ → ℕ → ℕ → List ℕ → List (ℕ × ℕ) → Plain CrashAtom → List (Plain ViewAtom)
 terms_below d n x xs c f = map (λ w. term f (c ++ w)) (vectors_below d n x xs)
 
@@ -65,7 +65,7 @@ terms_below-more d n x xs c f =
     ap (flat_map put) (range_more n) ∙ flat_map-append put (range_with_len 0 n) (n ∷ []) ∙ ap (λ (l : List (List (ℕ × ℕ))). below ++ l) (append-nil (put n)) in
     ap (map say) split ∙ map-append say below (put n) ∙ ap (λ (l : List (Plain ViewAtom)). map say below ++ l) (terms_chosen x n (vectors d xs) c f)
 
--- the terms of one more value n are joined, behind the choice c with that value
+-- the terms of one more value n are joined, after the choice c with that value
 pub joined_all-more :
     (d n x : ℕ) (xs : List ℕ) (c c' l : List (ℕ × ℕ)) (f : Plain CrashAtom) (b w w' : Option (Plain ViewAtom))
     → l ≡ c

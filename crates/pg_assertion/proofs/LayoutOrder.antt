@@ -6,7 +6,7 @@ use Rattle.pg_assertion.specs.declared.atom.ViewAtom.{ViewAtom}
 use Rattle.pg_assertion.specs.declared.atom.ViewAtom.TheVariants.{Scalar, Last, Read, Persist, Async, Then, Newest, Ordered, Fenced}
 use Rattle.pg_assertion.specs.declared.layout.Side.{Side}
 use Rattle.pg_assertion.specs.declared.layout.Side.TheVariants.{Before, After}
-use Rattle.pg_assertion.specs.Layout.{Sizes, IsAtom, scalar_atoms, last_atoms, read_atoms, persist_atoms, async_atoms, then_atoms, newest_atoms, ordered_atoms, fenced_atoms, atoms_in_order, cells, seen_cells, cell_pairs, thread_locations, scalar_place, cell_place, seen_place, pair_place, view_place, last_start, read_start, persist_start, async_start, then_start, newest_start, ordered_start, fenced_start, atoms, place_of, number, AtomsStandInOrder, PlacesAreNumbers, AtomsAreCounted, NumbersTellAtomsApart, NumbersHaveNoGap, NumbersTellSidesApart, number_on}
+use Rattle.pg_assertion.specs.Layout.{Sizes, IsAtom, scalar_atoms, last_atoms, read_atoms, persist_atoms, async_atoms, then_atoms, newest_atoms, ordered_atoms, fenced_atoms, atoms_in_order, cells, seen_cells, cell_pairs, thread_locations, scalar_place, cell_place, seen_place, pair_place, view_place, last_start, read_start, persist_start, async_start, then_start, newest_start, ordered_start, fenced_start, atoms, place_of, number, AtomsStandInOrder, PlacesAreNumbers, AtomsAreCounted, LargestHasMost, NumbersTellAtomsApart, NumbersHaveNoGap, NumbersTellSidesApart, number_on}
 use Rattle.pg_assertion.proofs.LayoutPlaces.{stands_before, stands_behind, stands_in_one, length-grid, stands_in_grid, of_grid}
 use Rattle.pg_assertion.proofs.LayoutLists.{length-cell_list, length-seen_list, length-view_list, length-pair_list, stands_in_cells, stands_in_seen, stands_in_views, stands_in_pairs, of_cells, of_seen, of_views, of_pairs}
 
@@ -219,6 +219,9 @@ places_are_numbers l i a h =
 
 pub atoms_are_counted : AtomsAreCounted
 atoms_are_counted l = (upto_fenced_part l).size_is
+
+pub largest_has_most : LargestHasMost
+largest_has_most l values scalars locations threads = simp (values, scalars, locations, threads) refl
 
 same_option : {A : Type 0} (a b : A) → Some a ≡ Some b → a ≡ b
 same_option a b e = cc

@@ -14,7 +14,7 @@ stands_behind (x ∷ xs) ys zero i a e h = absurd (omega arith)
 stands_behind (x ∷ xs) ys (suc m) i a e h =
     let s : suc m + i ≡ suc (m + i) = omega arith in rw s (stands_behind xs ys m i a (omega arith) h)
 
--- an entry of both is one of the first, or one of the second that stands behind it
+-- an entry of both is one of the first, or one of the second, which stands after the first
 pub stands_in_one : {A : Type 0} (xs ys : List A) (m i : ℕ) (a : A) → length xs ≡ m → slice_get (xs ++ ys) i ≡ Some a
     → (slice_get xs i ≡ Some a) ⊎ ((j : ℕ) × (i ≡ m + j) × (slice_get ys j ≡ Some a))
 stands_in_one [] ys m i a e h = inr (i, omega arith, h)

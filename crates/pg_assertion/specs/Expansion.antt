@@ -110,7 +110,7 @@ IsAtomOf t (crash.Location x v) = (x < length t.locations) × (v < t.domain)
 
 -- ---- steps of the code
 
--- one more conjunct behind those that are there
+-- one more conjunct after those that are there
 abbrev pub joined : Option (Plain ViewAtom) → Plain ViewAtom → Plain ViewAtom
 joined None g = g
 joined (Some f) g = both f g

@@ -3,6 +3,7 @@
 use Rattle.std.specs.Prelude.{◌≡◌, ℕ, ◌+◌, ◌-◌, ◌*◌, ◌<◌, ◌≤◌, List, ◌++◌, length, map, Some, slice_get}
 use Rattle.std.specs.List.{flat_map, range_with_len}
 use Rattle.pg_program.specs.NameTable.{NameTable}
+use Rattle.pg_assertion.specs.Limits.{most_atoms}
 use Rattle.pg_assertion.specs.declared.atom.ViewAtom.{ViewAtom}
 use Rattle.pg_assertion.specs.declared.atom.ViewAtom.TheVariants.{Scalar, Last, Read, Persist, Async, Then, Newest, Ordered, Fenced}
 use Rattle.pg_assertion.specs.declared.layout.Side.{Side}
@@ -189,6 +190,10 @@ PlacesAreNumbers =
 -- The list has as many entries as a side has atoms.
 abbrev pub AtomsAreCounted : Type 0
 AtomsAreCounted = (l : Sizes) → length (atoms_in_order l) ≡ atoms l
+
+-- Of the layouts within the limits the largest has as many atoms as a side may have.
+abbrev pub LargestHasMost : Type 0
+LargestHasMost = (l : Sizes) → l.domain ≡ 6 → l.scalars ≡ 16 → l.locations ≡ 8 → l.threads ≡ 4 → atoms l ≡ most_atoms
 
 -- No two atoms have one number.
 abbrev pub NumbersTellAtomsApart : Type 0

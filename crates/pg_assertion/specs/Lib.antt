@@ -2,3 +2,4 @@ pub mod Atom
 pub mod Expansion
 pub mod Formula
 pub mod Layout
+pub mod Limits

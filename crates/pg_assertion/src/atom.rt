@@ -16,11 +16,11 @@ pub enum ViewAtom {
     Async { t: u8, x: u8, v: u8 },
     /// `C(t,x,v,y,w)`: thread `t` may read `v` from `x`, and then `w` from `y`.
     Then { t: u8, x: u8, v: u8, y: u8, w: u8 },
-    /// `N(t,x)`: thread `t` may read the newest value of `x` alone.
+    /// `N(t,x)`: of `x` thread `t` may read the last message alone.
     Newest { t: u8, x: u8 },
-    /// `O(t,x)`: what thread `t` flushes by `flushopt x` is ordered behind the newest store to `x`.
+    /// `O(t,x)`: what thread `t` flushes by `flushopt x` is ordered after the last store to `x`.
     Ordered { t: u8, x: u8 },
-    /// `F(t,x)`: what thread `t` flushes by `flush x`, or fences, is ordered behind the newest store to `x`.
+    /// `F(t,x)`: what thread `t` flushes by `flush x`, or fences, is ordered after the last store to `x`.
     Fenced { t: u8, x: u8 },
 }
 

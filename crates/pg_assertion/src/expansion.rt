@@ -2,7 +2,7 @@
 //! definition in `specs/Expansion.antt`.
 
 ghost use Rattle.std.specs.Prelude.{◌≡◌, ℕ, ◌<◌, ◌≤◌, ◌↔◌, IsErrOf, length, map, option_map, IfOk, OnOk};
-ghost use Rattle.pg_assertion.specs.declared.expansion.TheConstants.{MAX_EXPANSION_NODES};
+ghost use Rattle.pg_assertion.specs.Limits.{most_nodes, most_named, most_expansion_nodes};
 ghost use Rattle.pg_assertion.specs.Formula.{plain, nodes, AllAtoms};
 ghost use Rattle.pg_assertion.specs.Expansion.{mentions, named, value_in, fill, constant, HasValueBelow, conjunction, can_persist, term, terms, joined, joined_all, or_true, expansion_over, expansion, expansion_size, ExpansionsHaveTheirSize, VectorsAreTheChoices, IsAtomOf};
 
@@ -12,7 +12,7 @@ use pg_program::Names;
 use std::alloc::{AllocError, Global};
 use thiserror::Error;
 
-/// The most nodes that an expansion may have.
+/// How many nodes an expansion may have.
 pub const MAX_EXPANSION_NODES: u64 = 8192;
 
 /// Why a crash formula was not expanded.
@@ -36,12 +36,12 @@ pub fn expand(
     names: &Names,
 ) -> Result<Formula<ViewAtom>, ExpandFault>
     requires domain { (2 ≤ names.now.domain) × (names.now.domain ≤ 6) }
-    requires few_nodes { nodes (plain f.now) ≤ 512 }
+    requires few_nodes { nodes (plain f.now) ≤ most_nodes }
     requires atoms { AllAtoms (IsAtomOf names.now) (plain f.now) }
-    requires few_locations { length (named (length names.now.locations) (plain f.now)) ≤ 3 }
+    requires few_locations { length (named (length names.now.locations) (plain f.now)) ≤ most_named }
     ensures expanded { IfOk result (λ g. plain g ≡ expansion names.now (plain f.now)) }
-    ensures small { IfOk result (λ g. nodes (plain g) ≤ MAX_EXPANSION_NODES) }
-    ensures too_large { (n : ℕ) → IsErrOf result (ExpandFault.TooLarge n) ↔ ((n ≡ nodes (expansion names.now (plain f.now))) × (MAX_EXPANSION_NODES < n)) }
+    ensures small { IfOk result (λ g. nodes (plain g) ≤ most_expansion_nodes) }
+    ensures too_large { (n : ℕ) → IsErrOf result (ExpandFault.TooLarge n) ↔ ((n ≡ nodes (expansion names.now (plain f.now))) × (most_expansion_nodes < n)) }
 {
     let domain = names.domain() as u8;
     let locations = names.locations();
@@ -70,8 +70,8 @@ pub fn vectors_are_the_choices()
 /// The number of nodes of the expansion, which is not built.
 fn expansion_size(f: &Formula<CrashAtom>, domain: u8, locations: u8) -> u64
     requires domain { (1 ≤ domain) × (domain ≤ 6) }
-    requires few_nodes { nodes (plain f.now) ≤ 512 }
-    requires few_locations { length (named locations (plain f.now)) ≤ 3 }
+    requires few_nodes { nodes (plain f.now) ≤ most_nodes }
+    requires few_locations { length (named locations (plain f.now)) ≤ most_named }
     ensures { result ≡ expansion_size domain (length (named locations (plain f.now))) (nodes (plain f.now)) }
 {
     let nodes = f.nodes();
@@ -177,7 +177,7 @@ fn constant(is_true: bool) -> Formula<ViewAtom>
     }
 }
 
-/// One more conjunct behind those that are there.
+/// One more conjunct after those that are there.
 fn joined(
     alloc: Global,
     before: Option<Formula<ViewAtom>>,

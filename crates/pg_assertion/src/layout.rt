@@ -5,7 +5,7 @@
 
 ghost use Rattle.std.specs.Prelude.{◌≡◌, ℕ, ◌+◌, ◌*◌, ◌<◌, ◌≤◌};
 ghost use Rattle.pg_assertion.specs.declared.layout.Side.{Side};
-ghost use Rattle.pg_assertion.specs.Layout.{IsWithinLimits, IsAtom, IsThread, number, number_on, place_of, atoms, AtomsStandInOrder, PlacesAreNumbers, AtomsAreCounted, NumbersTellAtomsApart, NumbersHaveNoGap, NumbersTellSidesApart};
+ghost use Rattle.pg_assertion.specs.Layout.{IsWithinLimits, IsAtom, IsThread, number, number_on, place_of, atoms, AtomsStandInOrder, PlacesAreNumbers, AtomsAreCounted, LargestHasMost, NumbersTellAtomsApart, NumbersHaveNoGap, NumbersTellSidesApart};
 
 use crate::atom::ViewAtom;
 use pg_program::Names;
@@ -20,6 +20,11 @@ pub enum Side {
 
 /// How many atoms a side has at most: with 6 values, 16 scalars, 8 locations and 4 threads.
 pub const MAX_ATOMS: u32 = 9_888;
+
+// Kind by kind: `r = k`; `L` and `P`; `R` and `A`; `C`; `N`, `O` and `F`.
+const _: () = prove!(
+    MAX_ATOMS == 6 * 16 + 2 * (6 * 8) + 2 * (6 * 8 * 4) + 6 * 8 * (6 * 8 * 4) + 3 * (8 * 4)
+);
 
 /// The atoms of a side, over the values, scalars, locations and threads of a program, and their numbers.
 #[derive(Clone, Copy, Debug, PartialEq, Eq)]
@@ -43,6 +48,7 @@ impl Model for Layout {
 }
 
 impl Layout {
+    ghost use Rattle.pg_assertion.specs.Limits.{most_atoms};
     ghost use Rattle.pg_assertion.specs.Layout.{sizes, scalar_cells, cells, seen_cells, cell_pairs, thread_locations, scalar_place, cell_place, seen_place, pair_place, view_place, last_start, read_start, persist_start, async_start, then_start, newest_start, ordered_start, fenced_start};
 
     /// The layout over these names and this many threads.
@@ -62,7 +68,7 @@ impl Layout {
     /// How many atoms a side has.
     pub fn atoms(&self) -> u32
         ensures count { result ≡ atoms self.now }
-        ensures few { result ≤ MAX_ATOMS }
+        ensures few { result ≤ most_atoms }
         ensures limits { IsWithinLimits self.now }
     {
         self.fenced_start() + self.thread_locations()
@@ -73,7 +79,7 @@ impl Layout {
         requires { IsAtom self.now a.now }
         ensures number { result ≡ number self.now a.now }
         ensures within { (1 ≤ result) × (result ≤ atoms self.now) }
-        ensures few { result ≤ MAX_ATOMS }
+        ensures few { result ≤ most_atoms }
     {
         1 + self.place_of(a)
     }
@@ -96,7 +102,7 @@ impl Layout {
         requires { IsAtom self.now a.now }
         ensures place { result ≡ place_of self.now a.now }
         ensures within { result < atoms self.now }
-        ensures few { result < MAX_ATOMS }
+        ensures few { result < most_atoms }
     {
         match *a {
             ViewAtom::Scalar { r, k } => self.scalar_place(r, k),
@@ -400,9 +406,10 @@ pub fn places_are_numbers()
     ensures { PlacesAreNumbers }
 {}
 
-/// The list has as many entries as a side has atoms.
+/// The list has as many entries as a side has atoms, and the largest layout has as many as a side may have.
 pub fn atoms_are_counted()
-    ensures { AtomsAreCounted }
+    ensures counted { AtomsAreCounted }
+    ensures most { LargestHasMost }
 {}
 
 /// No two atoms have one number.
