@@ -1,12 +1,15 @@
 -- What is found thread by thread, and location by location.
-use Rattle.std.proofs.Common.{◌≡◌, ℕ, suc, ◌+◌, ◌-◌, ◌<◌, max, List, [], ◌∷◌, length, map, drop, get_or, refl, sym, ap, ◌∙◌, arith}
+use Rattle.std.proofs.Common.{◌≡◌, ℕ, suc, ◌+◌, ◌-◌, ◌<◌, ◌≤◌, max, List, [], ◌∷◌, length, map, drop, get_or, refl, sym, ap, ◌∙◌, arith}
 use Rattle.std.proofs.lemmas.List.{length-map, get_or-map}
 use Rattle.pg_program.specs.Program.{ProgramTable}
 use Rattle.pg_machine.specs.State.{Views, State, IsWellFormed, greatest, vpc_of}
 use Rattle.pg_machine.specs.Memory.{Memory}
 use Rattle.pg_machine.specs.Step.{views_of}
 use Rattle.pg_machine.proofs.Scan.{greatest-next}
+use Rattle.pg_machine.proofs.Moved.{thread-views}
+use Rattle.pg_assertion.specs.Layout.{sizes, IsThread}
 use Rattle.pg_views.specs.Crash.{values_at}
+use Rattle.pg_views.specs.Parts.{Has}
 
 -- what was committed, thread by thread
 pub committed-next : (s : State) (x m t k : ℕ) → t < length s.views → k ≡ t + 1
@@ -30,3 +33,22 @@ values_at-length m x (p ∷ ps) = ap suc (values_at-length m (suc x) ps)
 -- there is a value of each location
 pub locations-count : (p : ProgramTable) (s : State) → IsWellFormed p s → length s.memory.initial ≡ length p.names.locations
 locations-count p s h = ap length h.memory.initial ∙ length-map p.names.locations (λ e. e.1)
+
+-- a thread of the program has its views of each declared location
+pub has_views : (p : ProgramTable) (s : State) (t x : ℕ) → IsWellFormed p s → IsThread (sizes p.names (length p.threads)) t → x < length p.names.locations → Has s t x
+has_views p s t x h thread inside =
+    let count = locations-count p s h in
+    let threads = h.threads in
+    let last = thread.last in
+    let size = (thread-views p s t h thread.first thread.last).size in
+    let coh = size.0 in
+    let vpa = size.1.0 in
+    let vpc = size.1.1 in
+    record {
+      first = thread.first;
+      last = omega (arith, threads, last);
+      location = omega (arith, count, inside);
+      coh = omega (arith, count, inside, coh);
+      vpa = omega (arith, count, inside, vpa);
+      vpc = omega (arith, count, inside, vpc);
+    }
