@@ -72,14 +72,15 @@ all_none a b c d e f g h ia ib ic id ie if ig ih =
 
 each_none : (a b c d e f g h : Option Fault) → first_of a (first_of b (first_of c (first_of d (first_of e (first_of f (first_of g h)))))) ≡ None
     → (a ≡ None) × (b ≡ None) × (c ≡ None) × (d ≡ None) × (e ≡ None) × (f ≡ None) × (g ≡ None) × (h ≡ None)
-each_none None None None None None None None h is = (refl, refl, refl, refl, refl, refl, refl, is)
-each_none (Some x) b c d e f g h is = cc
-each_none None (Some x) c d e f g h is = cc
-each_none None None (Some x) d e f g h is = cc
-each_none None None None (Some x) e f g h is = cc
-each_none None None None None (Some x) f g h is = cc
-each_none None None None None None (Some x) g h is = cc
-each_none None None None None None None (Some x) h is = cc
+each_none a b c d e f g h is =
+    let p = none_of a (first_of b (first_of c (first_of d (first_of e (first_of f (first_of g h)))))) is in
+    let q = none_of b (first_of c (first_of d (first_of e (first_of f (first_of g h))))) p.1 in
+    let r = none_of c (first_of d (first_of e (first_of f (first_of g h)))) q.1 in
+    let s = none_of d (first_of e (first_of f (first_of g h))) r.1 in
+    let t = none_of e (first_of f (first_of g h)) s.1 in
+    let u = none_of f (first_of g h) t.1 in
+    let v = none_of g h u.1 in
+    (p.0, q.0, r.0, s.0, t.0, u.0, v.0, v.1)
 
 faultless : (names : NameTable) (threads : List (List Stmt)) → first_fault names threads ≡ None → Faultless names threads
 faultless names threads h =

@@ -140,6 +140,79 @@ fn moved_test(alloc: Global, names: &Names, test: &Cond) -> Result<Cond, AllocEr
     })
 }
 
+/// An assignment with each register at its new place.
+fn moved_assign(alloc: Global, names: &Names, target: u8, expr: &Expr) -> Result<Act, AllocError>
+    ensures { IfOk result (λ a. a ≡ Act.Assign (new_place names.now target) (moved (new_place names.now) expr.now)) }
+{
+    let expr = moved(alloc, names, expr)?;
+    let target = new_place(names, target);
+    Ok(Act::Assign { target, expr })
+}
+
+/// A store with each register at its new place.
+fn moved_store(alloc: Global, names: &Names, location: u8, expr: &Expr) -> Result<Act, AllocError>
+    ensures { IfOk result (λ a. a ≡ Act.Store location (moved (new_place names.now) expr.now)) }
+{
+    let expr = moved(alloc, names, expr)?;
+    Ok(Act::Store { location, expr })
+}
+
+/// A compare-and-swap with each register at its new place.
+fn moved_cas(
+    alloc: Global,
+    names: &Names,
+    target: u8,
+    location: u8,
+    expected: &Expr,
+    desired: &Expr,
+) -> Result<Act, AllocError>
+    ensures { IfOk result (λ a. a ≡ Act.Cas (new_place names.now target) location (moved (new_place names.now) expected.now) (moved (new_place names.now) desired.now)) }
+{
+    let expected = moved(alloc, names, expected)?;
+    let desired = moved(alloc, names, desired)?;
+    let target = new_place(names, target);
+    Ok(Act::Cas {
+        target,
+        location,
+        expected,
+        desired,
+    })
+}
+
+/// A choice between erased blocks, with each register of its test at its new place.
+fn moved_if(
+    alloc: Global,
+    names: &Names,
+    test: &Cond,
+    yes: Vec<Stmt>,
+    no: Vec<Stmt>,
+) -> Result<Act, AllocError>
+    ensures { IfOk result (λ a. a ≡ Act.If (moved_test (new_place names.now) test.now) yes.items no.items) }
+{
+    let test = moved_test(alloc, names, test)?;
+    Ok(Act::If {
+        test,
+        yes: Items::from_vec(yes),
+        no: Items::from_vec(no),
+    })
+}
+
+/// A loop over an erased block, with each register of its test at its new place.
+fn moved_while(
+    alloc: Global,
+    names: &Names,
+    test: &Cond,
+    body: Vec<Stmt>,
+) -> Result<Act, AllocError>
+    ensures { IfOk result (λ a. a ≡ Act.While (moved_test (new_place names.now) test.now) body.items) }
+{
+    let test = moved_test(alloc, names, test)?;
+    Ok(Act::While {
+        test,
+        body: Items::from_vec(body),
+    })
+}
+
 /// The statements of each thread without brackets.
 fn erased_threads(alloc: Global, program: &Program) -> Result<Vec<Vec<Stmt>>, AllocError>
     ensures { IfOk result (λ ts. map (λ t. t.items) ts.items ≡ map (map (erased_stmt (new_place program.now.names))) program.now.threads) }
@@ -179,46 +252,35 @@ fn erased_stmt(alloc: Global, names: &Names, stmt: &Stmt) -> Result<Stmt, AllocE
 fn erased_act(alloc: Global, names: &Names, act: &Act) -> Result<Act, AllocError>
     ensures { IfOk result (λ a. a ≡ erased_act (new_place names.now) act.now) }
 {
-    Ok(match act {
-        Act::Assign { target, expr } => Act::Assign {
-            target: new_place(names, *target),
-            expr: moved(alloc, names, expr)?,
-        },
-        Act::Store { location, expr } => Act::Store {
-            location: *location,
-            expr: moved(alloc, names, expr)?,
-        },
-        Act::Load { target, location } => Act::Load {
+    match act {
+        Act::Assign { target, expr } => moved_assign(alloc, names, *target, expr),
+        Act::Store { location, expr } => moved_store(alloc, names, *location, expr),
+        Act::Load { target, location } => Ok(Act::Load {
             target: new_place(names, *target),
             location: *location,
-        },
+        }),
         Act::Cas {
             target,
             location,
             expected,
             desired,
-        } => Act::Cas {
-            target: new_place(names, *target),
+        } => moved_cas(alloc, names, *target, *location, expected, desired),
+        Act::Mfence => Ok(Act::Mfence),
+        Act::Sfence => Ok(Act::Sfence),
+        Act::Flush { location } => Ok(Act::Flush {
             location: *location,
-            expected: moved(alloc, names, expected)?,
-            desired: moved(alloc, names, desired)?,
-        },
-        Act::Mfence => Act::Mfence,
-        Act::Sfence => Act::Sfence,
-        Act::Flush { location } => Act::Flush {
+        }),
+        Act::Flushopt { location } => Ok(Act::Flushopt {
             location: *location,
-        },
-        Act::Flushopt { location } => Act::Flushopt {
-            location: *location,
-        },
-        Act::If { test, yes, no } => Act::If {
-            test: moved_test(alloc, names, test)?,
-            yes: Items::from_vec(erased_block(alloc, names, yes.as_slice())?),
-            no: Items::from_vec(erased_block(alloc, names, no.as_slice())?),
-        },
-        Act::While { test, body } => Act::While {
-            test: moved_test(alloc, names, test)?,
-            body: Items::from_vec(erased_block(alloc, names, body.as_slice())?),
-        },
-    })
+        }),
+        Act::If { test, yes, no } => {
+            let yes = erased_block(alloc, names, yes.as_slice())?;
+            let no = erased_block(alloc, names, no.as_slice())?;
+            moved_if(alloc, names, test, yes, no)
+        }
+        Act::While { test, body } => {
+            let body = erased_block(alloc, names, body.as_slice())?;
+            moved_while(alloc, names, test, body)
+        }
+    }
 }
