@@ -7,14 +7,14 @@ use Rattle.pg_program.specs.NameTable.{NameTable}
 use Rattle.pg_assertion.specs.Formula.{with_atoms}
 use Rattle.pg_assertion.specs.Atom.{raw_of}
 use Rattle.pg_assertion_text.specs.SpellingLaws.{cursor}
-use Rattle.pg_program_text.specs.declared.thread.TheConstants.{MAX_POINTS}
+use Rattle.pg_program_text.specs.Limits.{most_points}
 use Rattle.pg_program_text.specs.Grammar.{BeginsNone}
 use Rattle.pg_program_text.specs.Spelling.{spell_thread}
 use Rattle.pg_program_text.specs.ReadAgain.{ThreadsAreReadAgain, lines_of}
 use Rattle.pg_program_text.proofs.SpellingThreads.{threads_stand}
 use Rattle.pg_program_text.proofs.ThreadComplete.{thread_reads}
 
--- the token behind a place is the token behind the blanks there
+-- the token after a place is the token after the blanks there
 token_behind : (c d : Cursor) → behind_gap c ≡ behind_gap d → token c ≡ token d
 unfolding token
 token_behind c d same = ap (λ (b : Cursor). lexeme_at b (piece b.rest)) same
@@ -31,7 +31,7 @@ read_again names ss notes at more whole few none =
       to = stands.to;
       reads = thread_reads names (cursor at (text ++ more)) stands.to (lines_of ss notes) (record {
         body = stands.body;
-        few = subst (λ (n : ℕ). n ≤ MAX_POINTS) (sym (length-map notes (with_atoms raw_of))) few;
+        few = subst (λ (n : ℕ). n ≤ most_points) (sym (length-map notes (with_atoms raw_of))) few;
         stops = begins_none names stands.to behind stands.ends none;
       });
       ends = stands.ends;

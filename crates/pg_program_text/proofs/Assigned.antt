@@ -8,7 +8,7 @@ use Rattle.pg_assertion_text.specs.Input.{Input, Outcome, Parser, and_then, pure
 use Rattle.pg_program_text.specs.Stmt.{assignment, separator, assignments_on}
 use Rattle.pg_program_text.proofs.Turns.{next_turn, no_turn}
 
--- what is behind an assignment
+-- what is after an assignment
 abbrev after : NameTable → ℕ → List AuxAssign → AuxAssign → Parser (List AuxAssign)
 after names n found a = λ t. and_then (separator t) (λ more. if more then assignments_on names n (found ++ a ∷ []) else pure (found ++ a ∷ []))
 

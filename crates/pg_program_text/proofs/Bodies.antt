@@ -21,11 +21,11 @@ use Rattle.pg_assertion.specs.declared.atom.RawAtom.{RawAtom}
 use Rattle.pg_assertion.specs.Formula.{Plain}
 use Rattle.pg_assertion_text.specs.Within.{IsWritableRaw, IsWithin}
 use Rattle.pg_assertion_text.proofs.Within.{formulas_are_within}
-use Rattle.pg_program_text.specs.declared.thread.TheConstants.{MAX_BLOCKS}
+use Rattle.pg_program_text.specs.Limits.{most_open_blocks}
 use Rattle.pg_program_text.specs.Thread.{bare}
 use Rattle.pg_program_text.specs.Grammar as g
 use Rattle.pg_program_text.specs.Grammar.{Part, IsPart, IsBody, IsAct, IsBracket, IsTest, IsNote}
-use Rattle.pg_program_text.specs.SpellingLaws.{nesting}
+use Rattle.pg_program_text.specs.Measures.{nesting}
 
 abbrev Notes : Type 0
 Notes = List (Plain RawAtom)
@@ -74,7 +74,7 @@ record Splits (y : Stmt-F Act Stmt) (test : Bool) (first second : List Stmt) : T
 abbrev Split : Stmt → Bool → List Stmt → List Stmt → Type 0
 Split s test first second = Splits (out-Stmt s) test first second
 
--- a statement is its first point, with the blocks of its two lists behind it
+-- a statement is its first point, with the blocks of its two lists after it
 split_whole : (s : Stmt) (test : Bool) (first second : List Stmt) → Split s test first second → block (s ∷ []) ≡ node s (block first) (block second) done
 split_whole s test first second h = split-block (s ∷ []) first second [] s refl (sym h.first_is) (sym h.second_is)
 
@@ -140,7 +140,7 @@ record Points (names : NameTable) (P : Stmt → Type 0) (part : Part) (n : ℕ) 
 pub record Body (names : NameTable) (P : Stmt → Type 0) (b : Block) (ns : Notes) : Type 0 where
   pub stmts : All P (statements b)
   pub count : length ns ≡ size b + 1
-  pub low : nesting b ≤ MAX_BLOCKS
+  pub low : nesting b ≤ most_open_blocks
   pub notes : All (IsWithin IsWritableRaw names) ns
 
 -- the fact holds of each kind of statement, whatever is in its blocks
@@ -239,7 +239,7 @@ module _ (names : NameTable) (P : Stmt → Type 0) (meets : Meets names P) where
   }
   body_points _ _ _ _ (g.body_line f a ss ms ns from mid end to note is rest) =
       let others = body_points end ss ns to rest in
-      let one = part_points g.stmt MAX_BLOCKS mid (a ∷ []) ms end is in
+      let one = part_points g.stmt most_open_blocks mid (a ∷ []) ms end is in
       record {
         stmts = all_stmts a ss one.stmts others.stmts;
         count =
@@ -247,6 +247,6 @@ module _ (names : NameTable) (P : Stmt → Type 0) (meets : Meets names P) where
             let first = one.count in
             let behind = others.count in
             omega (arith, many, first, behind);
-        low = line_low MAX_BLOCKS a ss one.low others.low;
+        low = line_low most_open_blocks a ss one.low others.low;
         notes = line_notes f ms ns (note_within names from f mid note) one.notes others.notes;
       }

@@ -67,7 +67,7 @@ plus_or_minus_found names i j o h = bind_then (goes_on s.Plus i) or_minus (o, j)
 
 -- ---- chains
 
--- one more turn, where the turns behind it are known
+-- one more turn, where the turns after it are known
 turn_found : (item : Parser Expr) (link : Parser (Option Sign)) (Part Whole : Input → Expr → Input → Type 0)
     → ((i j : Input) (a : Expr) → item i ≡ Ok (a, j) → Part i a j)
     → ((i j k l : Input) (a b : Expr) (z : Sign) → Whole i a j → link j ≡ Ok (Some z, k) → Part k b l → Whole i (by_sign z a b) l)

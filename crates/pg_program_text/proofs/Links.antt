@@ -10,7 +10,7 @@ use Rattle.pg_assertion_text.specs.Input.{Input, Outcome, Parser, and_then}
 use Rattle.pg_program_text.specs.Expr.{by_sign, next_link, linked_on}
 use Rattle.pg_program_text.proofs.Turns.{next_turn, no_turn}
 
--- the sign gives this, and what is behind it that
+-- the sign gives this, and what is after it that
 turn : (item : Parser Expr) (link : Parser (Option Sign)) (n i : ℕ) (left : Expr) (t : Input) (whole : Outcome Expr) (o : Outcome (Option Sign))
     → i < n → whole ≡ linked_on item link (n - i) left t → link t ≡ o → whole ≡ and_then o (next_link item (linked_on item link (n - (i + 1))) left)
 unfolding linked_on

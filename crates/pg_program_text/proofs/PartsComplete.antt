@@ -26,13 +26,13 @@ use Rattle.pg_assertion_text.specs.AtomLaws.{raw_found, raw_again, raw_begins}
 use Rattle.pg_assertion_text.specs.Parsing.{IsFormula}
 use Rattle.pg_assertion_text.specs.Steps.{bind_value, peek_reads, stands_token, node_reads, expect_reads, location_reads, named_reads, sign_is_same}
 use Rattle.pg_assertion_text.proofs.Whole.{formula_at_reads}
-use Rattle.pg_program_text.specs.declared.stmt.TheConstants.{MAX_EXPR_NODES, MAX_EXPR_OPEN, MAX_ASSIGNMENTS}
+use Rattle.pg_program_text.specs.Limits.{most_expression_nodes, most_open_brackets, most_assignments}
 use Rattle.pg_program_text.specs.declared.keyword.Keyword.{Keyword}
 use Rattle.pg_program_text.specs.declared.keyword.Keyword.TheVariants as k
 use Rattle.pg_program_text.specs.Keywords.{spelling, keyword, keyword_by, keyword_of}
 use Rattle.pg_program_text.specs.Expr as expr
 use Rattle.pg_program_text.specs.Expr.{Rule, Is, sum, factor_of, a_number, a_scalar, a_bracket, a_term, a_product, an_expr, a_sum, a_difference}
-use Rattle.pg_program_text.specs.Stmt.{with_room, expression, behind, formula, opens_note, opened, note, equal_at, told, test_sign, a_test, operand, last_operand, swap, load_or_assign, assigned_by, assigned, to_name, act_by, an_act, auxiliary_in, one_more, assignment, goes_on_or_ends, separator, assignments_on, bracket_by, bracket}
+use Rattle.pg_program_text.specs.Stmt.{with_room, expression, behind, formula, opens_note, opened, note, equal_at, settled, test_sign, a_test, operand, last_operand, swap, load_or_assign, assigned_by, assigned, to_name, act_by, an_act, auxiliary_in, one_more, assignment, goes_on_or_ends, separator, assignments_on, bracket_by, bracket}
 use Rattle.pg_program_text.specs.Grammar.{IsExpr, IsNote, IsTest, IsAct, an_assign, a_store, a_load, a_cas, an_mfence, an_sfence, a_flush, a_flushopt, IsAssignment, AreAssignments, the_last, one_more as another, IsBracket, no_bracket, a_bracket as brackets, equality}
 use Rattle.pg_program_text.proofs.ExprComplete.{at, EndsExpr, ends_before, expr_reads}
 use Rattle.pg_program_text.proofs.PartsSound.{keyword_found}
@@ -45,7 +45,7 @@ to_ i c = record i { cursor = c }
 
 pub expression_reads : (names : NameTable) (i : Input) (a : Expr) (to : Cursor) → IsExpr names i.cursor a to → EndsExpr to → expression names i ≡ Ok (a, to_ i to)
 unfolding expression
-expression_reads names i a to is ends = ap (with_room i.room) (expr_reads names MAX_EXPR_OPEN is.nodes i.cursor to a is.is ends MAX_EXPR_NODES is.few)
+expression_reads names i a to is ends = ap (with_room i.room) (expr_reads names most_open_brackets is.nodes i.cursor to a is.is ends most_expression_nodes is.few)
 
 formula_reads : (names : NameTable) (i : Input) (f : Plain RawAtom) (to : Cursor) → IsFormula IsRaw names i.cursor f to → formula names i ≡ Ok (f, to_ i to)
 unfolding formula
@@ -80,8 +80,8 @@ test_reads names i c to is ends =
     let st = is.equality_is in
     bind_value (expression names i) _ c.left (to_ i is.mid) (expression_reads names i c.left is.mid is.left (equality_ends names c.equal is.mid is.behind st))
     ∙ bind_value (test_sign (to_ i is.mid)) _ c.equal (to_ i is.behind)
-    (bind_value (next (to_ i is.mid)) (λ t. told (equal_at t)) st.lexeme (to_ i is.behind) (stands_token names (sign (equality c.equal)) (to_ i is.mid) is.behind st)
-    ∙ ap (λ r. told r (to_ i is.behind)) (equal_reads st.lexeme c.equal st.matches))
+    (bind_value (next (to_ i is.mid)) (λ t. settled (equal_at t)) st.lexeme (to_ i is.behind) (stands_token names (sign (equality c.equal)) (to_ i is.mid) is.behind st)
+    ∙ ap (λ r. settled r (to_ i is.behind)) (equal_reads st.lexeme c.equal st.matches))
     ∙ ap (λ o. and_then o (λ b. pure (record { left = c.left; right = b; equal = c.equal }))) (expression_reads names (to_ i is.behind) c.right to is.right ends)
 
 -- ---- keywords
@@ -183,7 +183,7 @@ scalar_act names i r mid end st sets =
 assign_reads : (names : NameTable) (i : Input) (r : ℕ) (a : Expr) (to : Cursor) → IsExpr names i.cursor a to → EndsExpr to → assigned names r i ≡ Ok (act.Assign r a, to_ i to)
 unfolding assigned
 assign_reads names i r a to is ends =
-    let f = expr_first names expr.expr MAX_EXPR_OPEN is.nodes i.cursor to a is.is in
+    let f = expr_first names expr.expr most_open_brackets is.nodes i.cursor to a is.is in
     bind_value (peek i) (λ t. assigned_by names r t (keyword t)) f.lexeme i (peek_reads i f.lexeme f.read)
     ∙ ap (λ o. assigned_by names r f.lexeme o i) f.no_keyword
     ∙ ap (λ (p : Parser Act). p i) (f.assigns r)
@@ -299,10 +299,10 @@ bracket_reads names room _ _ _ end (no_bracket from) semi =
 bracket_reads names room _ _ _ end (brackets b from mid to st are) semi =
     bind_value (peek (at from room)) (λ t. bracket_by names (is_sign s.Less t.kind)) st.lexeme (at from room) (peek_reads (at from room) st.lexeme st.read)
     ∙ ap (λ z. bracket_by names (is_sign s.Less z) (at from room)) st.matches
-    ∙ ap (λ o. and_then o (λ u. assignments_on names MAX_ASSIGNMENTS [])) (stands_token names (sign s.Less) (at from room) mid st)
-    ∙ assignments_read names MAX_ASSIGNMENTS room [] mid b to are
+    ∙ ap (λ o. and_then o (λ u. assignments_on names most_assignments [])) (stands_token names (sign s.Less) (at from room) mid st)
+    ∙ assignments_read names most_assignments room [] mid b to are
 
--- what stands behind an act ends its expression
+-- what stands after an act ends its expression
 pub bracket_ends : (names : NameTable) (from : Cursor) (b : List AuxAssign) (to end : Cursor) → IsBracket names from b to → Stands names (sign s.Semicolon) to end → EndsExpr from
 bracket_ends names _ _ _ end (no_bracket from) semi = ends_before names s.Semicolon from end semi refl refl refl
 bracket_ends names _ _ _ end (brackets b from mid to st are) semi = ends_before names s.Less from mid st refl refl refl

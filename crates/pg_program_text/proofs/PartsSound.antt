@@ -31,12 +31,12 @@ use Rattle.pg_assertion_text.specs.AtomLaws.{raw_found, raw_again, raw_begins}
 use Rattle.pg_assertion_text.specs.Parsing.{IsFormula, formula_at}
 use Rattle.pg_assertion_text.specs.Steps.{ok_same, bind_then, allowed_then, next_found, peek_found, node_takes, is_sign_found, Takes, takes_one, takes_then, expect_found, location_found, named_found}
 use Rattle.pg_assertion_text.proofs.Whole.{formula_at_found}
-use Rattle.pg_program_text.specs.declared.stmt.TheConstants.{MAX_EXPR_NODES, MAX_EXPR_OPEN, MAX_ASSIGNMENTS}
+use Rattle.pg_program_text.specs.Limits.{most_expression_nodes, most_open_brackets, most_assignments}
 use Rattle.pg_program_text.specs.declared.keyword.Keyword.{Keyword}
 use Rattle.pg_program_text.specs.declared.keyword.Keyword.TheVariants as k
 use Rattle.pg_program_text.specs.Keywords.{spelling, keyword, keyword_by, keyword_of}
 use Rattle.pg_program_text.specs.Expr.{sum, factor_of}
-use Rattle.pg_program_text.specs.Stmt.{with_room, expression, behind, formula, opens_note, opened, note, equal_at, told, test_sign, a_test, operand, last_operand, swap, load_or_assign, assigned_by, assigned, to_name, named_act, act_by, an_act, auxiliary_in, one_more, assignment, goes_on_or_ends, separator, assignments_on, bracket_by, bracket}
+use Rattle.pg_program_text.specs.Stmt.{with_room, expression, behind, formula, opens_note, opened, note, equal_at, settled, test_sign, a_test, operand, last_operand, swap, load_or_assign, assigned_by, assigned, to_name, named_act, act_by, an_act, auxiliary_in, one_more, assignment, goes_on_or_ends, separator, assignments_on, bracket_by, bracket}
 use Rattle.pg_program_text.specs.Grammar as g
 use Rattle.pg_program_text.specs.Grammar.{IsExpr, IsNote, IsTest, IsAct, IsAssignment, AreAssignments, IsBracket, equality}
 use Rattle.pg_program_text.proofs.ExprSound.{expr_found}
@@ -57,8 +57,8 @@ with_room_then r (Err e) a j h use_it = cc
 pub expression_found : (names : NameTable) (i j : Input) (a : Expr) → expression names i ≡ Ok (a, j) → Passed (IsExpr names) i a j
 unfolding expression
 expression_found names i j a h =
-    with_room_then i.room (sum (factor_of names MAX_EXPR_OPEN) (record i { room = MAX_EXPR_NODES })) a j h (λ l reads at.
-    let found = expr_found names MAX_EXPR_OPEN (record i { room = MAX_EXPR_NODES }) l a reads in
+    with_room_then i.room (sum (factor_of names most_open_brackets) (record i { room = most_expression_nodes })) a j h (λ l reads at.
+    let found = expr_found names most_open_brackets (record i { room = most_expression_nodes }) l a reads in
     record {
       is = subst (λ q. IsExpr names i.cursor a q.cursor) (sym at) (record { nodes = found.nodes; is = found.is; few = let fr = found.room in omega arith });
       room = sym (ap (λ q. q.room) at);
@@ -114,9 +114,9 @@ note_found names i j f h =
 
 -- ---- tests
 
-told_then : {A X : Type 0} (r : Result A TextFault) (i : Input) (q : A × Input) → told r i ≡ Ok q → ((a : A) → r ≡ Ok a → (a, i) ≡ q → X) → X
-told_then (Ok a) i q h use_it = use_it a refl (ok_same (a, i) q h)
-told_then (Err e) i q h use_it = cc
+settled_then : {A X : Type 0} (r : Result A TextFault) (i : Input) (q : A × Input) → settled r i ≡ Ok q → ((a : A) → r ≡ Ok a → (a, i) ≡ q → X) → X
+settled_then (Ok a) i q h use_it = use_it a refl (ok_same (a, i) q h)
+settled_then (Err e) i q h use_it = cc
 
 equal_found : (t : Lexeme) (b : Bool) → equal_at t ≡ Ok b → t.kind ≡ kind.Sign (equality b)
 equal_found t b h = by (is_sign s.Equal t.kind) refl h
@@ -139,7 +139,7 @@ test_found names i j c h =
     bind_then (test_sign l) _ (c, j) rest (λ b n compares rest2.
     bind_then (expression names n) _ (c, j) rest2 (λ d o second end.
     bind_then (next l) _ (b, n) compares (λ t m read tells.
-    told_then (equal_at t) m (b, n) tells (λ b2 is same.
+    settled_then (equal_at t) m (b, n) tells (λ b2 is same.
     let left = expression_found names i l a first in
     let right = expression_found names n o d second in
     let found = next_found l m t read in
@@ -217,7 +217,7 @@ abbrev item_of : NameRef → Item
 item_of (place.Location x) = location x
 item_of (place.Scalar r) = scalar r
 
--- the last of some items stands with nothing behind it
+-- the last of some items stands with nothing after it
 ended : (names : NameTable) (is : List Item) (i j : Input) (t : Takes names is 0 i j) → Stand names is i.cursor j.cursor
 ended names is i j t = t.stand
 
@@ -417,7 +417,7 @@ separator_found names i j b h =
         (takes_one names (sign s.Comma) i l t read (is_sign_found s.Comma t.kind e) at)
     by t l read at false e g = second t l read at (is_sign s.Greater t.kind) refl g
 
--- the assignments that were read behind others
+-- the assignments that were read after others
 record Behind (names : NameTable) (n : ℕ) (found : List AuxAssign) (i : Input) (all : List AuxAssign) (j : Input) : Type 0 where
   rest : List AuxAssign
   are : all ≡ found ++ rest
@@ -463,12 +463,12 @@ bracket_found names i j b h =
   where
     by : (t : Lexeme) → token i.cursor ≡ Ok t → (c : Bool) → is_sign s.Less t.kind ≡ c → bracket_by names c i ≡ Ok (b, j) → Passed (IsBracket names) i b j
     by t read true e rest =
-        bind_then (next i) (λ u. assignments_on names MAX_ASSIGNMENTS []) (b, j) rest (λ w m takes rest2.
+        bind_then (next i) (λ u. assignments_on names most_assignments []) (b, j) rest (λ w m takes rest2.
         let found = next_found i m w takes in
-        let a = assignments_found names MAX_ASSIGNMENTS [] b m j rest2 in
+        let a = assignments_found names most_assignments [] b m j rest2 in
         record {
           is = g.a_bracket b i.cursor m.cursor j.cursor (record { lexeme = t; read = read; matches = is_sign_found s.Less t.kind e; behind = ap (λ q. q.cursor) found.1 })
-              (subst (λ l. AreAssignments names MAX_ASSIGNMENTS m.cursor l j.cursor) (sym a.are) a.is);
+              (subst (λ l. AreAssignments names most_assignments m.cursor l j.cursor) (sym a.are) a.is);
           room = let ar = a.room in let fr = ap (λ q. q.room) found.1 in omega arith;
         })
     by t read false e rest =

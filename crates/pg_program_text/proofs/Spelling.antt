@@ -11,7 +11,8 @@ use Rattle.pg_program.specs.Graph.{size}
 use Rattle.pg_program.proofs.BlockLemmas.{block-nests}
 use Rattle.pg_assertion.specs.declared.atom.ViewAtom.{ViewAtom}
 use Rattle.pg_assertion.specs.Formula.{Plain}
-use Rattle.pg_program_text.specs.Spelling.{indent, line, note_line, stmt_line, else_line, last_line, stmt_lines, spell_block, StmtDeclared, BlockDeclared}
+use Rattle.pg_program_text.specs.Spelling.{indent, line, note_line, stmt_line, else_line, last_line, stmt_lines, spell_block}
+use Rattle.pg_program_text.specs.DeclaredNames.{StmtDeclared, BlockDeclared}
 
 -- one more brace
 pub indent_turn : (depth i : ℕ) → i < depth → indent (depth - i) ≡ codes "  " ++ indent (depth - (i + 1))

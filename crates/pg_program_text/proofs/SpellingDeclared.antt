@@ -14,7 +14,7 @@ use Rattle.pg_program.specs.Block.{Block, done, node}
 use Rattle.pg_program.specs.Graph.{statements}
 use Rattle.pg_program.specs.Program.{IsStmt}
 use Rattle.pg_program.proofs.ExprLemmas.{All-front, All-behind}
-use Rattle.pg_program_text.specs.Spelling.{TestDeclared, ActDeclared, AssignmentDeclared, StmtDeclared, BlockDeclared}
+use Rattle.pg_program_text.specs.DeclaredNames.{TestDeclared, ActDeclared, AssignmentDeclared, StmtDeclared, BlockDeclared}
 use Rattle.pg_program_text.proofs.SpellingTrees.{expr_declared}
 
 module _ (names : NameTable) where

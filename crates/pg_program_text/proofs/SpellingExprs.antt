@@ -8,7 +8,9 @@ use Rattle.pg_assertion_text.specs.SpellingLaws.{cursor}
 use Rattle.pg_assertion_text.proofs.SpellingTokens.{Spells, joined, blank, mapped, widened, here, open_stands, close_stands}
 use Rattle.pg_assertion_text.proofs.SpellingAtoms.{number_spells, scalar_spells}
 use Rattle.pg_program_text.specs.Expr.{Rule, factor, term, expr, Is, a_number, a_scalar, a_bracket, a_term, a_product, an_expr, a_sum, a_difference}
-use Rattle.pg_program_text.specs.Spelling.{Tree, number, name, sum, difference, product, tree, is_sum, is_binary, spell, spell_expr, opens, nodes, Declared, NumbersFit}
+use Rattle.pg_program_text.specs.Spelling.{Tree, number, name, sum, difference, product, tree, is_sum, is_binary, spell, spell_expr}
+use Rattle.pg_program_text.specs.DeclaredNames.{Declared}
+use Rattle.pg_program_text.specs.Measures.{opens, nodes, NumbersFit}
 use Rattle.pg_program_text.specs.SpellingLaws.{IsWritable, ExpressionsStand}
 use Rattle.pg_program_text.proofs.SpellingTrees.{expr_of, whole_is}
 use Rattle.pg_program_text.proofs.SpellingSigns.{plus_stands, minus_stands, times_stands}

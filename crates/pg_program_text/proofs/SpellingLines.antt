@@ -1,4 +1,4 @@
--- Lines of a text: the newline behind one is passed over by the next, as the blanks in front of it are.
+-- Lines of a text: the newline after one is passed over by the next, as the blanks in front of it are.
 use Rattle.std.proofs.Common.{◌≡◌, ℕ, zero, suc, ◌+◌, false, List, [], ◌∷◌, ◌++◌, length, drop, ap, ap₂, subst, ◌∙◌, arith, append_assoc, length-append}
 use Rattle.std.specs.Prelude.{codes}
 use Rattle.pg_lex.specs.Piece.{gap_len}

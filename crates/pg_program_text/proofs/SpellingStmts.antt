@@ -30,10 +30,11 @@ use Rattle.pg_assertion_text.specs.ReadAgain.{IsWhole}
 use Rattle.pg_assertion_text.proofs.SpellingTokens.{Spells, Anything, Then, joined, blank, mapped, widened, open_stands, close_stands, comma_stands, equal_stands}
 use Rattle.pg_assertion_text.proofs.SpellingAtoms.{location_spells, scalar_spells, raw_spelled}
 use Rattle.pg_assertion_text.proofs.Spelling as formula_proofs
-use Rattle.pg_program_text.specs.declared.stmt.TheConstants.{MAX_EXPR_OPEN, MAX_ASSIGNMENTS}
+use Rattle.pg_program_text.specs.Limits.{most_open_brackets, most_assignments}
 use Rattle.pg_program_text.specs.Grammar.{IsExpr, IsNote, IsTest, equality, IsAct, an_assign, a_store, a_load, a_cas, an_mfence, an_sfence, a_flush, a_flushopt, IsAssignment, AreAssignments, the_last, one_more, IsBracket, no_bracket, a_bracket}
 use Rattle.pg_program_text.specs.Spelling.{tree, spell_expr, spell_test, spell_act, spell_assignment, further, spell_bracket}
 use Rattle.pg_program_text.specs.Spelling as spec
+use Rattle.pg_program_text.specs.Measures.{nodes}
 use Rattle.pg_program_text.specs.SpellingLaws.{WholeExpr, WholeTest, WholeAct, WholeAssignment}
 use Rattle.pg_program_text.proofs.SpellingExprs.{expr_spells}
 use Rattle.pg_program_text.proofs.SpellingSigns.{assign_stands, not_equal_stands, less_stands, greater_stands, semicolon_stands, open_square_stands, close_square_stands, mfence_stands, sfence_stands, flush_stands, flushopt_stands, cas_stands}
@@ -41,7 +42,7 @@ use Rattle.pg_program_text.proofs.SpellingSigns.{assign_stands, not_equal_stands
 module _ (names : NameTable) (table : IsNameTable names) (are : AreNames names) where
   whole_spells : (e : Expr) → WholeExpr names e → Spells Ends (λ from to. IsExpr names from e to) (spell_expr names e)
   whole_spells e w =
-      mapped (expr_spells names table are e MAX_EXPR_OPEN w.writable w.shallow) (λ from to is. record { nodes = spec.nodes (tree e); is = is; few = w.few })
+      mapped (expr_spells names table are e most_open_brackets w.writable w.shallow) (λ from to is. record { nodes = nodes (tree e); is = is; few = w.few })
 
   -- ---- notes
 
@@ -166,16 +167,16 @@ module _ (names : NameTable) (table : IsNameTable names) (are : AreNames names) 
       (λ more ok. refl))
       (λ from to way. one_more n a (b ∷ rest) from way.0 way.2.0 to way.1 way.2.1 way.2.2)
 
-  -- a bracket or none, and the `;` behind it
+  -- a bracket or none, and the `;` after it
   abbrev pub Ending : List AuxAssign → Cursor → Cursor → Type 0
   Ending aux from to = (mid : Cursor) × IsBracket names from aux mid × Stands names (sign s.Semicolon) mid to
 
-  pub ending_spells : (aux : List AuxAssign) → All (WholeAssignment names) aux → length aux ≤ MAX_ASSIGNMENTS
+  pub ending_spells : (aux : List AuxAssign) → All (WholeAssignment names) aux → length aux ≤ most_assignments
       → Spells Anything (Ending aux) (spell_bracket names aux ++ codes ";")
   ending_spells [] w few = mapped (semicolon_stands names) (λ from to is. (from, no_bracket from, is))
   ending_spells (a ∷ rest) w few =
       mapped
-      (joined (blank (joined (less_stands names) (blank (assignments_spell MAX_ASSIGNMENTS a rest few w)) (λ more ok. tt))) (semicolon_stands names) (λ more ok. tt))
+      (joined (blank (joined (less_stands names) (blank (assignments_spell most_assignments a rest few w)) (λ more ok. tt))) (semicolon_stands names) (λ more ok. tt))
       (λ from to way. (way.0, a_bracket (a ∷ rest) from way.1.0 way.0 way.1.1 way.1.2, way.2))
 
   pub ending_ends : (aux : List AuxAssign) (more : List ℕ) → Ends ((spell_bracket names aux ++ codes ";") ++ more)

@@ -28,13 +28,13 @@ use Rattle.pg_assertion_text.specs.SpellingLaws.{cursor}
 use Rattle.pg_assertion_text.specs.ReadAgain.{IsWhole}
 use Rattle.pg_assertion_text.proofs.SpellingTokens.{Then, joined, blank, mapped, here}
 use Rattle.pg_program_text.specs.declared.keyword.Keyword.TheVariants as k
-use Rattle.pg_program_text.specs.declared.thread.TheConstants.{MAX_BLOCKS}
-use Rattle.pg_program_text.specs.declared.stmt.TheConstants.{MAX_ASSIGNMENTS}
+use Rattle.pg_program_text.specs.Limits.{most_open_blocks, most_assignments}
 use Rattle.pg_program_text.specs.Keywords.{spelling}
 use Rattle.pg_program_text.specs.Thread.{bare}
 use Rattle.pg_program_text.specs.Grammar.{IsNote, IsTest, stmt, lines, IsPart, a_simple, an_if, a_while, an_else, no_else, in_braces, no_lines, a_line, IsBody, last_note, body_line}
 use Rattle.pg_program_text.specs.Spelling.{spell_act, spell_bracket, spell_test, line, note_line, stmt_line, else_line, last_line, spell_block, spell_thread}
-use Rattle.pg_program_text.specs.SpellingLaws.{WholeTest, WholeAct, WholeAssignment, WholeStmt, WholeThread, nesting, ThreadsStand}
+use Rattle.pg_program_text.specs.SpellingLaws.{WholeTest, WholeAct, WholeAssignment, WholeStmt, WholeThread, ThreadsStand}
+use Rattle.pg_program_text.specs.Measures.{nesting}
 use Rattle.pg_program_text.proofs.Spelling.{all_drop}
 use Rattle.pg_program_text.proofs.SpellingSigns.{open_brace_stands, close_brace_stands, if_stands, else_stands, while_stands}
 use Rattle.pg_program_text.proofs.SpellingLines.{Written, empty, followed, changed, lined}
@@ -72,7 +72,7 @@ module _ (names : NameTable) (table : IsNameTable names) (are : AreNames names) 
   abbrev stmt_of : Act-F Act Stmt → List AuxAssign → Stmt
   stmt_of x aux = roll-Stmt (record { act = roll-Act x; aux = aux })
 
-  simple_written : (x : Act-F Act Stmt) (aux : List AuxAssign) (n depth : ℕ) → is_test_in x ≡ false → WholeAct names x → All (WholeAssignment names) aux → length aux ≤ MAX_ASSIGNMENTS
+  simple_written : (x : Act-F Act Stmt) (aux : List AuxAssign) (n depth : ℕ) → is_test_in x ≡ false → WholeAct names x → All (WholeAssignment names) aux → length aux ≤ most_assignments
       → Written (StmtAt n (stmt_of x aux) []) (line depth (spell_act names x ++ (spell_bracket names aux ++ codes ";")))
   simple_written x aux n depth plain w assigned few =
       lined depth
@@ -80,7 +80,7 @@ module _ (names : NameTable) (table : IsNameTable names) (are : AreNames names) 
       (λ from to way. a_simple n (roll-Act x) aux from way.0 way.2.0 to way.1 way.2.1 way.2.2))
       (λ more. tt)
 
-  -- the same, where two empty blocks stand behind
+  -- the same, where two empty blocks follow
   alone : {X : Cursor → Cursor → Type 0} {w : List ℕ} → Written X w → Written X (w ++ [])
   alone {X} {w} a = subst (Written X) (sym (append-nil w)) a
 
@@ -143,7 +143,7 @@ module _ (names : NameTable) (table : IsNameTable names) (are : AreNames names) 
       → ((m : ℕ) → nesting (block (second_in x)) ≤ m
       → Written (LinesAt m (second_in x) (raws (take (size (block (second_in x))) (drop (size (block (first_in x))) fs)))) (spell_block names (depth + 1) (block (second_in x)) (drop (size (block (first_in x))) fs)))
       → (if is_test_in x then 1 + max (nesting (block (first_in x))) (nesting (block (second_in x))) else 0) ≤ n
-      → WholeAct names x → All (WholeAssignment names) aux → length aux ≤ MAX_ASSIGNMENTS → (is_test_in x ≡ true → aux ≡ [])
+      → WholeAct names x → All (WholeAssignment names) aux → length aux ≤ most_assignments → (is_test_in x ≡ true → aux ≡ [])
       → Written (StmtAt n (stmt_of x aux) (raws (take (size (block (first_in x))) fs) ++ raws (take (size (block (second_in x))) (drop (size (block (first_in x))) fs))))
       (line depth (spell_act names x ++ (if is_test_in x then codes " {" else spell_bracket names aux ++ codes ";"))
       ++ (spell_block names (depth + 1) (block (first_in x)) fs
@@ -186,7 +186,7 @@ module _ (names : NameTable) (table : IsNameTable names) (are : AreNames names) 
       append_assoc a (b ++ (c ++ (d ++ e))) g
       ∙ ap (λ (t : List ℕ). a ++ t) (append_assoc b (c ++ (d ++ e)) g ∙ ap (λ (t : List ℕ). b ++ t) (append_assoc c (d ++ e) g ∙ ap (λ (t : List ℕ). c ++ t) (append_assoc d e g)))
 
-  -- the notes within a statement, and those behind it
+  -- the notes within a statement, and those after it
   notes_are : (a b c : ℕ) (f : Plain ViewAtom) (fs : Notes)
       → with_atoms raw_of f ∷ ((raws (take a fs) ++ raws (take b (drop a fs))) ++ raws (take c (drop b (drop a fs)))) ≡ raws (take (1 + (a + (b + c))) (f ∷ fs))
   notes_are a b c f fs =
@@ -270,7 +270,7 @@ module _ (names : NameTable) (table : IsNameTable names) (are : AreNames names) 
 -- ---- threads
 
 ended_body : {names : NameTable} {n : ℕ} {ss : List Stmt} {ns : List (Plain RawAtom)} {from mid : Cursor} (g : Plain RawAtom) (to : Cursor)
-    → n ≡ MAX_BLOCKS → IsPart names lines n from ss ns mid → IsNote names mid g to → IsBody names from ss (ns ++ g ∷ []) to
+    → n ≡ most_open_blocks → IsPart names lines n from ss ns mid → IsNote names mid g to → IsBody names from ss (ns ++ g ∷ []) to
 ended_body g to is (no_lines n from) last = last_note g from to last
 ended_body {names} g to is (a_line n f a ss ms ns from mid end behind note part rest) last =
     subst (λ (fs : List (Plain RawAtom)). IsBody names from (a ∷ ss) (f ∷ fs) to) (sym (append_assoc ms ns (g ∷ [])))
@@ -298,7 +298,7 @@ body_written names ss notes w =
     let WholeOne = IsWhole formula_laws.IsWritable names in
     let last_whole : WholeOne l.note = All-head WholeOne l.note [] (subst (All WholeOne) l.behind (all_drop WholeOne n notes w.formulas)) in
     let len = w.points in
-    let before = lines_written names w.table w.names_are n ss MAX_BLOCKS 1 notes (omega arith) w.stmts w.shallow (omega arith) w.formulas in
+    let before = lines_written names w.table w.names_are n ss most_open_blocks 1 notes (omega arith) w.stmts w.shallow (omega arith) w.formulas in
     let last = lined 1 (note_spells names w.table w.names_are l.note last_whole) (λ more. tt) in
     let last_line : Written (λ from to. IsNote names from (with_atoms raw_of l.note) to) (note_line names 1 (drop n notes)) =
     subst (λ (fs : Notes). Written (λ from to. IsNote names from (with_atoms raw_of l.note) to) (note_line names 1 fs)) (sym l.behind) last

@@ -8,7 +8,8 @@ use Rattle.pg_program.specs.declared.syntax.Expr.TheVariants as e
 use Rattle.pg_program.specs.NameTable.{NameTable}
 use Rattle.pg_program.specs.Expr.{reads, reads_step}
 use Rattle.pg_program.proofs.ExprLemmas.{All-front, All-behind, AreBelow}
-use Rattle.pg_program_text.specs.Spelling.{Tree, number, name, sum, difference, product, tree, tree_step, Declared, IsDeclared}
+use Rattle.pg_program_text.specs.Spelling.{Tree, number, name, sum, difference, product, tree, tree_step}
+use Rattle.pg_program_text.specs.DeclaredNames.{Declared, IsDeclared}
 
 module _ {A : Type 0} (f : Expr → A) (step : Expr-F A → A) (g : Tree → A)
     (f_rolls : (x : Expr-F Expr) → f (roll-Expr x) ≡ step (map-Expr Expr A f x))

@@ -24,7 +24,7 @@ use Rattle.pg_assertion_text.specs.Steps.{bind_value, peek_reads, stands_token, 
 use Rattle.pg_program_text.specs.declared.keyword.Keyword.{Keyword}
 use Rattle.pg_program_text.specs.declared.keyword.Keyword.TheVariants as k
 use Rattle.pg_program_text.specs.declared.thread.ThreadText.{ThreadText}
-use Rattle.pg_program_text.specs.declared.thread.TheConstants.{MAX_POINTS, MAX_BLOCKS}
+use Rattle.pg_program_text.specs.Limits.{most_points, most_open_blocks}
 use Rattle.pg_program_text.specs.Keywords.{spelling, keyword}
 use Rattle.pg_program_text.specs.Stmt.{a_test, an_act, bracket}
 use Rattle.pg_program_text.specs.Thread.{Lines, Noted, no_lines, bare, with_note, with_stmt, ending, simple, ends_by, ends, line, line_or_end, lines_on, lines, block, else_by, else_part, joined, branch, repeat, statement_by, statement_in, statement, begins, begins_by, stmt_or_end, line_of_body, body_goes_on, body_on, thread_at}
@@ -233,14 +233,14 @@ record OpensBrace (names : NameTable) (c : Cursor) : Type 0 where
 block_opens : (names : NameTable) (n : ℕ) (from to : Cursor) (ss : List Stmt) (ns : List (Plain RawAtom)) → IsPart names g.block n from ss ns to → OpensBrace names from
 block_opens names _ _ _ _ _ (in_braces n ss ns from mid end to st is close) = record { mid = mid; stands = st }
 
--- lines behind one more line
+-- lines after one more line
 line_joined : (before : Lines) (f : Plain RawAtom) (a : Stmt) (ms : List (Plain RawAtom)) (ss : List Stmt) (ns : List (Plain RawAtom))
     → ◌≡◌ {A = Lines} (record { stmts = (before.stmts ++ a ∷ []) ++ ss; notes = ((before.notes ++ f ∷ []) ++ ms) ++ ns }) (record { stmts = before.stmts ++ a ∷ ss; notes = before.notes ++ f ∷ (ms ++ ns) })
 line_joined before f a ms ss ns =
     ap (λ l. record { stmts = l; notes = ((before.notes ++ f ∷ []) ++ ms) ++ ns }) (append_assoc before.stmts (a ∷ []) ss)
     ∙ ap (λ l. record { stmts = before.stmts ++ a ∷ ss; notes = l }) (append_assoc (before.notes ++ f ∷ []) ms ns ∙ append_assoc before.notes (f ∷ []) (ms ++ ns))
 
--- nothing behind lines
+-- nothing after lines
 both_nil : (l : Lines) → l ≡ record { stmts = l.stmts ++ []; notes = l.notes ++ [] }
 both_nil l = ap (λ ss. record { stmts = ss; notes = l.notes }) (sym (append-nil l.stmts)) ∙ ap (λ ns. record { stmts = l.stmts ++ []; notes = ns }) (sym (append-nil l.notes))
 
@@ -303,7 +303,7 @@ last_reads names (suc k) r before f from to noted stops some turns =
     ∙ ap (λ b. stmt_or_end names (with_note before f) b (at to (r - 1))) stops.begins_none)
 
 body_line_reads : (names : NameTable) (k r : ℕ) (before : Lines) (f : Plain RawAtom) (a : Noted) (from mid end : Cursor) → IsNote names from f mid → Begun names mid → 0 < r → 0 < k
-    → statement names MAX_BLOCKS (at mid (r - 1)) ≡ Ok (a, at end (r - 1 - length a.notes))
+    → statement names most_open_blocks (at mid (r - 1)) ≡ Ok (a, at end (r - 1 - length a.notes))
     → body_on names k before (at from r) ≡ body_on names (k - 1) (with_stmt (with_note before f) a) (at end (r - 1 - length a.notes))
 unfolding body_on line_of_body
 body_line_reads names zero r before f a from mid end noted begun some turns reads = absurd (omega arith)
@@ -327,8 +327,8 @@ body_reads names _ _ _ _ (last_note f from to noted) stops r room k turns before
     ∙ ap (λ ss. Ok (record { stmts = ss; notes = before.notes ++ f ∷ [] }, at to (r - 1))) (sym (append-nil before.stmts))
 body_reads names _ _ _ _ (body_line f a ss ms ns from mid end to noted is rest) stops r room k turns before =
     let many = length-append ms ns in
-    body_line_reads names k r before f (record { stmt = a; notes = ms }) from mid end noted (stmt_begins names MAX_BLOCKS mid end (a ∷ []) ms is) (omega arith) (omega arith)
-    (claims names g.stmt MAX_BLOCKS mid end (a ∷ []) ms is (body_stands names end to ss ns rest) (r - 1) (omega arith))
+    body_line_reads names k r before f (record { stmt = a; notes = ms }) from mid end noted (stmt_begins names most_open_blocks mid end (a ∷ []) ms is) (omega arith) (omega arith)
+    (claims names g.stmt most_open_blocks mid end (a ∷ []) ms is (body_stands names end to ss ns rest) (r - 1) (omega arith))
     ∙ body_reads names end to ss ns rest stops (r - 1 - length ms) (omega arith) (k - 1) (omega arith) (with_stmt (with_note before f) (record { stmt = a; notes = ms }))
     ∙ ap (λ (l : Lines). Ok (l, at to (r - 1 - length ms - length ns))) (line_joined before f a ms ss ns)
     ∙ ap (λ q. Ok (record { stmts = before.stmts ++ a ∷ ss; notes = before.notes ++ f ∷ (ms ++ ns) }, at to q)) (omega arith)
@@ -336,7 +336,7 @@ body_reads names _ _ _ _ (body_line f a ss ms ns from mid end to noted is rest) 
 -- a body of the grammar is read
 pub thread_reads : (names : NameTable) (c to : Cursor) (l : Lines) → IsThreadText names c l to → thread_at names c ≡ Ok (l, to)
 unfolding thread_at
-thread_reads names c to l is = ap placed (body_reads names c to l.stmts l.notes is.body is.stops MAX_POINTS is.few (MAX_POINTS + 1) (omega arith) no_lines)
+thread_reads names c to l is = ap placed (body_reads names c to l.stmts l.notes is.body is.stops most_points is.few (most_points + 1) (omega arith) no_lines)
 
 -- ---- answers
 

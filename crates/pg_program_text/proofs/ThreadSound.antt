@@ -18,7 +18,7 @@ use Rattle.pg_assertion_text.specs.Parsing.{placed}
 use Rattle.pg_assertion_text.specs.Steps.{ok_same, bind_then, next_found, peek_found, is_sign_found, expect_found}
 use Rattle.pg_program_text.specs.declared.keyword.Keyword.{Keyword}
 use Rattle.pg_program_text.specs.declared.keyword.Keyword.TheVariants as k
-use Rattle.pg_program_text.specs.declared.thread.TheConstants.{MAX_POINTS, MAX_BLOCKS}
+use Rattle.pg_program_text.specs.Limits.{most_points, most_open_blocks}
 use Rattle.pg_program_text.specs.Keywords.{spelling, keyword}
 use Rattle.pg_program_text.specs.Stmt.{note, a_test, an_act, bracket}
 use Rattle.pg_program_text.specs.Thread.{Lines, Noted, no_lines, bare, with_note, with_stmt, ending, simple, ends_by, ends, line, line_or_end, lines_on, lines, refuse_block, block, else_by, else_part, joined, branch, repeat, statement_by, statement_in, statement, begins, stmt_or_end, line_of_body, body_goes_on, body_on, body, thread_at}
@@ -75,7 +75,7 @@ ends_found names b i j h =
         (record { lexeme = t; read = read; matches = is_sign_found s.CloseBrace t.kind e; behind = ap (λ q. q.cursor) found.1 }, sym (ap (λ q. q.room) found.1)))
     by t read false e rest = subst (λ (q : Bool × Input). EndsAt names q.0 i q.1) (ok_same (false, i) (b, j) rest) refl
 
--- lines of a block that were read behind others, and its brace
+-- lines of a block that were read after others, and its brace
 record Behind (names : NameTable) (m : ℕ) (before : Lines) (i : Input) (all : Lines) (j : Input) : Type 0 where
   stmts : List Stmt
   notes : List (Plain RawAtom)
@@ -244,7 +244,7 @@ statement_found names (suc m) i j n h = statement_in_found names (suc m) (Some (
 
 -- ---- bodies
 
--- a body that was read behind other lines
+-- a body that was read after other lines
 record Rest (names : NameTable) (before : Lines) (i : Input) (all : Lines) (j : Input) : Type 0 where
   stmts : List Stmt
   notes : List (Plain RawAtom)
@@ -255,7 +255,7 @@ record Rest (names : NameTable) (before : Lines) (i : Input) (all : Lines) (j : 
   stops : BeginsNone names j.cursor
 
 line_rest : (names : NameTable) (before : Lines) (f : Plain RawAtom) (a : Noted) (i u v j : Input) (all : Lines)
-    → IsNote names i.cursor f u.cursor → i.room ≡ u.room + 1 → Found names g.stmt MAX_BLOCKS u (alone a) v → Rest names (with_stmt (with_note before f) a) v all j → Rest names before i all j
+    → IsNote names i.cursor f u.cursor → i.room ≡ u.room + 1 → Found names g.stmt most_open_blocks u (alone a) v → Rest names (with_stmt (with_note before f) a) v all j → Rest names before i all j
 line_rest names before f a i u v j all noted room stmt b = record {
   stmts = a.stmt ∷ b.stmts;
   notes = f ∷ (a.notes ++ b.notes);
@@ -283,9 +283,9 @@ body_on_found names (suc n) before all i j h =
         → (p : Lines × Bool) (w : Input) → body_goes_on (body_on names n) p w ≡ Ok (all, j)
         → (b : Bool) → begins names t ≡ b → stmt_or_end names (with_note before f) b l ≡ Ok (p, w) → Rest names before i all j
     by f l t noted room read behind p w rest true is one =
-        bind_then (statement names MAX_BLOCKS l) _ (p, w) one (λ a v reads end.
+        bind_then (statement names most_open_blocks l) _ (p, w) one (λ a v reads end.
         let same = ok_same ((with_stmt (with_note before f) a, true), v) (p, w) end in
-        line_rest names before f a i l v j all noted room (statement_found names MAX_BLOCKS l v a reads)
+        line_rest names before f a i l v j all noted room (statement_found names most_open_blocks l v a reads)
         (behind (with_stmt (with_note before f) a) v (ap (λ (q : (Lines × Bool) × Input). body_goes_on (body_on names n) q.0 q.1) same ∙ rest)))
     by f l t noted room read behind p w rest false is one =
         let ends = ok_same ((with_note before f, false), l) (p, w) one in
@@ -313,8 +313,8 @@ placed_then (Err e) a to h use_it = cc
 pub thread_found : (names : NameTable) (c to : Cursor) (l : Lines) → thread_at names c ≡ Ok (l, to) → IsThreadText names c l to
 unfolding thread_at
 thread_found names c to l h =
-    placed_then (body names (record { cursor = c; room = MAX_POINTS })) l to h (λ j reads at.
-    let r = body_on_found names (MAX_POINTS + 1) no_lines l (record { cursor = c; room = MAX_POINTS }) j reads in
+    placed_then (body names (record { cursor = c; room = most_points })) l to h (λ j reads at.
+    let r = body_on_found names (most_points + 1) no_lines l (record { cursor = c; room = most_points }) j reads in
     subst (IsThreadText names c l) at (record {
       body = subst (λ ns. IsBody names c l.stmts ns j.cursor) (sym r.notes_are) (subst (λ ss. IsBody names c ss r.notes j.cursor) (sym r.stmts_are) r.is);
       few = let room = r.room in let many = ap length r.notes_are in omega arith;

@@ -30,12 +30,14 @@ use Rattle.pg_assertion_text.specs.Within.{IsWritableRaw, IsWithin}
 use Rattle.pg_assertion_text.proofs.Names.{item_fits}
 use Rattle.pg_assertion_text.proofs.Within.{assertions_are_within, whole_within}
 use Rattle.pg_assertion_text.proofs.Spelling.{bracket_small, each_mapped}
-use Rattle.pg_program_text.specs.declared.stmt.TheConstants.{MAX_ASSIGNMENTS}
+use Rattle.pg_program_text.specs.Limits.{most_assignments}
 use Rattle.pg_program_text.specs.Expr as grammar
 use Rattle.pg_program_text.specs.Thread.{bare}
 use Rattle.pg_program_text.specs.Grammar as g
 use Rattle.pg_program_text.specs.Grammar.{IsAct, IsExpr, IsAssignment, AreAssignments, IsBracket, IsTest}
-use Rattle.pg_program_text.specs.Spelling.{Tree, number, name, sum, difference, product, tree, tree_step, is_sum, is_binary, opens, nodes, Declared, NumbersFit}
+use Rattle.pg_program_text.specs.Spelling.{Tree, number, name, sum, difference, product, tree, tree_step, is_sum, is_binary}
+use Rattle.pg_program_text.specs.DeclaredNames.{Declared}
+use Rattle.pg_program_text.specs.Measures.{opens, nodes, NumbersFit}
 use Rattle.pg_program_text.specs.SpellingLaws.{WholeExpr, WholeTest, WholeAct, WholeAssignment, WholeStmt}
 use Rattle.pg_program_text.specs.BodyLaws.{BodiesAreWhole, TextsSpeakOfNames}
 use Rattle.pg_program_text.proofs.Bodies.{IsSimple, act_simple, opened, opened_if, opened_while, Meets, body_points}
@@ -182,16 +184,16 @@ whole_assignments names _ _ _ _ (g.one_more n a rest from mid behind to is st ot
       few = let few = h.few in omega arith;
     }
 
-whole_bracket : (names : NameTable) (from : Cursor) (b : List AuxAssign) (to : Cursor) → IsBracket names from b to → WholeBracket names MAX_ASSIGNMENTS b
+whole_bracket : (names : NameTable) (from : Cursor) (b : List AuxAssign) (to : Cursor) → IsBracket names from b to → WholeBracket names most_assignments b
 whole_bracket names _ _ _ (g.no_bracket from) = record { assignments = All-nil (WholeAssignment names); few = omega arith }
-whole_bracket names _ _ _ (g.a_bracket b from mid to st is) = whole_assignments names MAX_ASSIGNMENTS mid b to is
+whole_bracket names _ _ _ (g.a_bracket b from mid to st is) = whole_assignments names most_assignments mid b to is
 
 -- ---- statements
 
 -- a statement by its parts
 record WholeRow (names : NameTable) (y : Stmt-F Act Stmt) : Type 0 where
   act : WholeAct names (out-Act y.act)
-  bracket : WholeBracket names MAX_ASSIGNMENTS y.aux
+  bracket : WholeBracket names most_assignments y.aux
   bare : is_test_in (out-Act y.act) ≡ true → y.aux ≡ []
 
 whole_stmt : (names : NameTable) (y : Stmt-F Act Stmt) → WholeRow names y → WholeStmt names (roll-Stmt y)
@@ -199,7 +201,7 @@ whole_stmt names y row =
     let h = subst (WholeRow names) (sym (out-roll-Stmt y)) row in
     record { act = h.act; assignments = h.bracket.assignments; few = h.bracket.few; bare = h.bare }
 
-whole_simple : (names : NameTable) (a : Act) (b : List AuxAssign) → IsSimple (out-Act a) → WholeAct names (out-Act a) → WholeBracket names MAX_ASSIGNMENTS b → WholeStmt names (roll-Stmt (record { act = a; aux = b }))
+whole_simple : (names : NameTable) (a : Act) (b : List AuxAssign) → IsSimple (out-Act a) → WholeAct names (out-Act a) → WholeBracket names most_assignments b → WholeStmt names (roll-Stmt (record { act = a; aux = b }))
 whole_simple names a b is h k = whole_stmt names (record { act = a; aux = b }) (record { act = h; bracket = k; bare = λ test. let no = is.simple in cc })
 
 whole_bare : (names : NameTable) (a : Act) (x : Act-F Act Stmt) → out-Act a ≡ x → WholeAct names x → WholeStmt names (bare a)

@@ -69,20 +69,22 @@ plus_or_minus = do
   plus ← goes_on s.Plus
   or_minus plus
 
--- Items with signs between them, joined to the left. A sign is a node, so that there is at most one turn more than there
--- are nodes to come.
+-- nothing more after the item on the left, or the next item joined to it, and the rest
 abbrev pub next_link : Parser Expr → (Expr → Parser Expr) → Expr → Option Sign → Parser Expr
 next_link item rest left None = pure left
 next_link item rest left (Some z) = do
   right ← item
   rest (by_sign z left right)
 
+-- at most n turns
 unfoldable pub linked_on : Parser Expr → Parser (Option Sign) → ℕ → Expr → Parser Expr
 linked_on item link zero left = refuse 0 TooMany
 linked_on item link (suc n) left = do
   z ← link
   next_link item (linked_on item link n) left z
 
+-- Items with signs between them, joined to the left. A sign is a node, so that there is at most one turn more than there
+-- are nodes to come.
 unfoldable pub linked : Parser Expr → Parser (Option Sign) → Parser Expr
 linked item link = do
   left ← item

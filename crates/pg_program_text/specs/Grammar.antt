@@ -25,8 +25,7 @@ use Rattle.pg_assertion_text.specs.Words.{Stands, Stand, sign, word, location, s
 use Rattle.pg_assertion_text.specs.Atoms.{IsRaw}
 use Rattle.pg_assertion_text.specs.Parsing.{IsFormula}
 use Rattle.pg_program_text.specs.declared.keyword.Keyword.TheVariants as k
-use Rattle.pg_program_text.specs.declared.stmt.TheConstants.{MAX_EXPR_NODES, MAX_EXPR_OPEN, MAX_ASSIGNMENTS}
-use Rattle.pg_program_text.specs.declared.thread.TheConstants.{MAX_POINTS, MAX_BLOCKS}
+use Rattle.pg_program_text.specs.Limits.{most_expression_nodes, most_open_brackets, most_assignments, most_points, most_open_blocks}
 use Rattle.pg_program_text.specs.Keywords.{spelling}
 use Rattle.pg_program_text.specs.Expr as expr
 use Rattle.pg_program_text.specs.Expr.{Is}
@@ -35,8 +34,8 @@ use Rattle.pg_program_text.specs.Thread.{Lines, begins, bare}
 -- an expression within its limits
 pub record IsExpr (names : NameTable) (from : Cursor) (a : Expr) (to : Cursor) : Type 0 where
   pub nodes : ℕ
-  pub is : Is names expr.expr MAX_EXPR_OPEN nodes from a to
-  pub few : nodes ≤ MAX_EXPR_NODES
+  pub is : Is names expr.expr most_open_brackets nodes from a to
+  pub few : nodes ≤ most_expression_nodes
 
 -- a note
 pub record IsNote (names : NameTable) (from : Cursor) (f : Plain RawAtom) (to : Cursor) : Type 0 where
@@ -81,7 +80,7 @@ pub record IsAssignment (names : NameTable) (from : Cursor) (a : AuxAssign) (to 
   pub auxiliary : is_auxiliary names a.target ≡ true
   pub expr_is : IsExpr names mid a.expr to
 
--- at most n assignments, and the `>` behind them
+-- at most n assignments, and the `>` after them
 pub data AreAssignments (names : NameTable) : ℕ → Cursor → List AuxAssign → Cursor → Type 0 where
   the_last : (n : ℕ) (a : AuxAssign) (from mid to : Cursor) → IsAssignment names from a mid → Stands names (sign s.Greater) mid to → AreAssignments names (suc n) from (a ∷ []) to
   one_more : (n : ℕ) (a : AuxAssign) (rest : List AuxAssign) (from mid behind to : Cursor)
@@ -91,14 +90,14 @@ pub data AreAssignments (names : NameTable) : ℕ → Cursor → List AuxAssign 
 -- a bracket, or none
 pub data IsBracket (names : NameTable) : Cursor → List AuxAssign → Cursor → Type 0 where
   no_bracket : (from : Cursor) → IsBracket names from [] from
-  a_bracket : (b : List AuxAssign) (from mid to : Cursor) → Stands names (sign s.Less) from mid → AreAssignments names MAX_ASSIGNMENTS mid b to → IsBracket names from b to
+  a_bracket : (b : List AuxAssign) (from mid to : Cursor) → Stands names (sign s.Less) from mid → AreAssignments names most_assignments mid b to → IsBracket names from b to
 
 -- ---- statements and blocks
 
 pub data Part : Type 0 where
   -- one statement
   stmt : Part
-  -- notes with a statement behind each
+  -- notes with a statement after each
   lines : Part
   -- a block with its braces
   block : Part
@@ -132,7 +131,7 @@ pub data IsPart (names : NameTable) : Part → ℕ → Cursor → List Stmt → 
 pub data IsBody (names : NameTable) : Cursor → List Stmt → List (Plain RawAtom) → Cursor → Type 0 where
   last_note : (f : Plain RawAtom) (from to : Cursor) → IsNote names from f to → IsBody names from [] (f ∷ []) to
   body_line : (f : Plain RawAtom) (a : Stmt) (ss : List Stmt) (ms ns : List (Plain RawAtom)) (from mid end to : Cursor)
-      → IsNote names from f mid → IsPart names stmt MAX_BLOCKS mid (a ∷ []) ms end → IsBody names end ss ns to
+      → IsNote names from f mid → IsPart names stmt most_open_blocks mid (a ∷ []) ms end → IsBody names end ss ns to
       → IsBody names from (a ∷ ss) (f ∷ (ms ++ ns)) to
 
 -- the next token begins no statement
@@ -144,5 +143,5 @@ pub record BeginsNone (names : NameTable) (c : Cursor) : Type 0 where
 -- A body within the limits, which no statement goes on: what there is to read at a place.
 pub record IsThreadText (names : NameTable) (from : Cursor) (l : Lines) (to : Cursor) : Type 0 where
   pub body : IsBody names from l.stmts l.notes to
-  pub few : length l.notes ≤ MAX_POINTS
+  pub few : length l.notes ≤ most_points
   pub stops : BeginsNone names to

@@ -1,3 +1,4 @@
+pub mod Limits
 pub mod Expr
 pub mod Keywords
 pub mod Stmt
@@ -5,6 +6,8 @@ pub mod Thread
 pub mod Grammar
 pub mod Text
 pub mod Spelling
+pub mod DeclaredNames
+pub mod Measures
 pub mod SpellingLaws
 pub mod ReadAgain
 pub mod BodyLaws

@@ -7,7 +7,7 @@ use Rattle.pg_assertion.specs.declared.atom.ViewAtom.{ViewAtom}
 use Rattle.pg_assertion.specs.Formula.{Plain, with_atoms}
 use Rattle.pg_assertion.specs.Atom.{raw_of}
 use Rattle.pg_assertion_text.specs.SpellingLaws.{cursor}
-use Rattle.pg_program_text.specs.declared.thread.TheConstants.{MAX_POINTS}
+use Rattle.pg_program_text.specs.Limits.{most_points}
 use Rattle.pg_program_text.specs.Thread.{Lines, thread_at}
 use Rattle.pg_program_text.specs.Grammar.{BeginsNone}
 use Rattle.pg_program_text.specs.Spelling.{spell_thread}
@@ -26,7 +26,7 @@ pub record IsReadAgain (names : NameTable) (ss : List Stmt) (notes : List (Plain
 -- at any place, where a token follows that begins no statement
 abbrev pub ThreadIsReadAgain : NameTable → List Stmt → List (Plain ViewAtom) → Type 0
 ThreadIsReadAgain names ss notes =
-    (at : ℕ) (more : List ℕ) → WholeThread names ss notes → length notes ≤ MAX_POINTS → BeginsNone names (cursor (at + length (spell_thread names ss notes)) more)
+    (at : ℕ) (more : List ℕ) → WholeThread names ss notes → length notes ≤ most_points → BeginsNone names (cursor (at + length (spell_thread names ss notes)) more)
     → IsReadAgain names ss notes (cursor at (spell_thread names ss notes ++ more)) (cursor (at + length (spell_thread names ss notes)) more)
 
 abbrev pub ThreadsAreReadAgain : Type 0

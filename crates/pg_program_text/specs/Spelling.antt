@@ -1,7 +1,7 @@
 -- The canonical text of a thread. Each line is indented by two blanks for each brace that is open. A note stands on a
 -- line of its own, before its statement. Binary signs have one blank on each side, and brackets stand just where the
 -- expression would be read otherwise.
-use Rattle.std.specs.Prelude.{ℕ, zero, suc, ◌+◌, ◌<◌, ◌^◌, max, Bool, true, false, if◌then◌else◌, List, [], ◌∷◌, ◌++◌, length, drop, codes, decimal, All}
+use Rattle.std.specs.Prelude.{ℕ, zero, suc, ◌+◌, Bool, true, false, if◌then◌else◌, List, [], ◌∷◌, ◌++◌, drop, codes, decimal}
 use Rattle.pg_program.specs.NameTable.{NameTable}
 use Rattle.pg_program.specs.declared.syntax.Expr.{Expr, fold-Expr}
 use Rattle.pg_program.specs.declared.syntax.Expr.TheOpen.{Expr-F, Value, Scalar, Add, Sub, Mul}
@@ -14,7 +14,7 @@ use Rattle.pg_program.specs.Block.{Block, done, node, block}
 use Rattle.pg_program.specs.Graph.{size, is_test}
 use Rattle.pg_assertion.specs.declared.atom.ViewAtom.{ViewAtom}
 use Rattle.pg_assertion.specs.Formula.{Plain}
-use Rattle.pg_assertion_text.specs.Spelling.{location_name, scalar_name, in_brackets, bracket, spell_atom}
+use Rattle.pg_assertion_text.specs.Spelling.{location_name, scalar_name, in_brackets, spell_atom}
 use Rattle.pg_assertion_text.specs.Spelling as formulas
 
 -- ---- expressions
@@ -91,7 +91,7 @@ spell_act names (While c a) = codes "while " ++ spell_test names c
 abbrev pub spell_assignment : NameTable → AuxAssign → List ℕ
 spell_assignment names a = scalar_name names a.target ++ (codes " := " ++ spell_expr names a.expr)
 
--- the assignments behind the first one, and the end of the bracket
+-- the assignments after the first one, and the end of the bracket
 abbrev pub further : NameTable → List AuxAssign → List ℕ
 further names [] = codes " >"
 further names (a ∷ rest) = codes ", " ++ (spell_assignment names a ++ further names rest)
@@ -157,66 +157,3 @@ stmt_lines names depth s a b notes =
 -- the body of a thread, and the note of its end
 abbrev pub spell_thread : NameTable → List Stmt → List (Plain ViewAtom) → List ℕ
 spell_thread names ss notes = spell_block names 1 (block ss) notes ++ note_line names 1 (drop (size (block ss)) notes)
-
--- ---- what is declared
-
-unfoldable pub Declared : NameTable → Tree → Type 0
-Declared names (number v) = Unit {0}
-Declared names (name r) = r < length names.scalars
-Declared names (sum a b) = Declared names a × Declared names b
-Declared names (difference a b) = Declared names a × Declared names b
-Declared names (product a b) = Declared names a × Declared names b
-
-abbrev pub IsDeclared : NameTable → Expr → Type 0
-IsDeclared names e = Declared names (tree e)
-
-abbrev pub TestDeclared : NameTable → Cond → Type 0
-TestDeclared names c = IsDeclared names c.left × IsDeclared names c.right
-
-abbrev pub ActDeclared : NameTable → Act-F Act Stmt → Type 0
-ActDeclared names (Assign r e) = (r < length names.scalars) × IsDeclared names e
-ActDeclared names (Store x e) = (x < length names.locations) × IsDeclared names e
-ActDeclared names (Load r x) = (r < length names.scalars) × (x < length names.locations)
-ActDeclared names (Cas r x e d) = (r < length names.scalars) × (x < length names.locations) × IsDeclared names e × IsDeclared names d
-ActDeclared names Mfence = Unit {0}
-ActDeclared names Sfence = Unit {0}
-ActDeclared names (Flush x) = x < length names.locations
-ActDeclared names (Flushopt x) = x < length names.locations
-ActDeclared names (If c a b) = TestDeclared names c
-ActDeclared names (While c a) = TestDeclared names c
-
-abbrev pub AssignmentDeclared : NameTable → AuxAssign → Type 0
-AssignmentDeclared names a = (a.target < length names.scalars) × IsDeclared names a.expr
-
-abbrev pub StmtDeclared : NameTable → Stmt → Type 0
-StmtDeclared names s = ActDeclared names (out-Act (out-Stmt s).act) × All (AssignmentDeclared names) (out-Stmt s).aux
-
-unfoldable pub BlockDeclared : NameTable → Block → Type 0
-BlockDeclared names done = Unit {0}
-BlockDeclared names (node s a b rest) = StmtDeclared names s × BlockDeclared names a × BlockDeclared names b × BlockDeclared names rest
-
--- ---- what can be read again
-
--- how many brackets are open at once in the spelling
-unfoldable pub opens : Tree → ℕ
-opens (number v) = 0
-opens (name r) = 0
-opens (sum a b) = max (opens a) (bracket (is_sum b) + opens b)
-opens (difference a b) = max (opens a) (bracket (is_sum b) + opens b)
-opens (product a b) = max (bracket (is_sum a) + opens a) (bracket (is_binary b) + opens b)
-
--- the numbers, names and signs
-unfoldable pub nodes : Tree → ℕ
-nodes (number v) = 1
-nodes (name r) = 1
-nodes (sum a b) = 1 + (nodes a + nodes b)
-nodes (difference a b) = 1 + (nodes a + nodes b)
-nodes (product a b) = 1 + (nodes a + nodes b)
-
--- the numbers can be read
-unfoldable pub NumbersFit : Tree → Type 0
-NumbersFit (number v) = v < 2 ^ 32
-NumbersFit (name r) = Unit {0}
-NumbersFit (sum a b) = NumbersFit a × NumbersFit b
-NumbersFit (difference a b) = NumbersFit a × NumbersFit b
-NumbersFit (product a b) = NumbersFit a × NumbersFit b

@@ -1,5 +1,5 @@
--- The law of spelling: the canonical text is in the grammar, and stands for what it was made of.
-use Rattle.std.specs.Prelude.{◌≡◌, ℕ, ◌+◌, ◌<◌, ◌≤◌, max, true, if◌then◌else◌, List, [], ◌++◌, length, map, All}
+-- The laws of spelling: the canonical text is in the grammar, and stands for what it was made of.
+use Rattle.std.specs.Prelude.{◌≡◌, ℕ, ◌+◌, ◌<◌, ◌≤◌, true, List, [], ◌++◌, length, map, All}
 use Rattle.pg_lex.specs.Lex.{Cursor, behind_gap}
 use Rattle.pg_program.specs.NameTable.{NameTable, IsNameTable}
 use Rattle.pg_program.specs.declared.syntax.Expr.{Expr}
@@ -8,7 +8,7 @@ use Rattle.pg_program.specs.declared.syntax.AuxAssign.{AuxAssign}
 use Rattle.pg_program.specs.declared.syntax.Stmt.{Stmt, out-Stmt}
 use Rattle.pg_program.specs.declared.syntax.Act.{Act, out-Act}
 use Rattle.pg_program.specs.declared.syntax.Act.TheOpen.{Act-F, Assign, Store, Load, Cas, Mfence, Sfence, Flush, Flushopt, If, While}
-use Rattle.pg_program.specs.Block.{Block, done, node, block}
+use Rattle.pg_program.specs.Block.{block}
 use Rattle.pg_program.specs.Graph.{size, statements, is_test}
 use Rattle.pg_program.specs.Fault.{is_auxiliary}
 use Rattle.pg_assertion.specs.declared.atom.ViewAtom.{ViewAtom}
@@ -18,18 +18,19 @@ use Rattle.pg_assertion.specs.Atom.{raw_of}
 use Rattle.pg_assertion_text.specs.SpellingLaws as formulas
 use Rattle.pg_assertion_text.specs.SpellingLaws.{cursor}
 use Rattle.pg_assertion_text.specs.ReadAgain.{IsWhole}
-use Rattle.pg_program_text.specs.declared.stmt.TheConstants.{MAX_EXPR_NODES, MAX_EXPR_OPEN, MAX_ASSIGNMENTS}
-use Rattle.pg_program_text.specs.declared.thread.TheConstants.{MAX_BLOCKS}
+use Rattle.pg_program_text.specs.Limits.{most_expression_nodes, most_open_brackets, most_assignments, most_open_blocks}
 use Rattle.pg_program_text.specs.Expr as grammar
 use Rattle.pg_program_text.specs.Expr.{Is}
 use Rattle.pg_program_text.specs.Grammar.{IsBody}
-use Rattle.pg_program_text.specs.Spelling.{Tree, tree, spell_expr, spell_thread, opens, nodes, Declared, NumbersFit}
+use Rattle.pg_program_text.specs.Spelling.{Tree, tree, spell_expr, spell_thread}
+use Rattle.pg_program_text.specs.DeclaredNames.{Declared}
+use Rattle.pg_program_text.specs.Measures.{opens, nodes, NumbersFit, nesting}
 
 -- what can be read again: its names are declared, and its numbers fit
 abbrev pub IsWritable : NameTable → Tree → Type 0
 IsWritable names t = Declared names t × NumbersFit t
 
--- Behind the spelling there may stand what no word goes on with.
+-- After the spelling there may stand what no word goes on with.
 abbrev pub ExpressionsStand : Type 0
 ExpressionsStand =
     (names : NameTable) (e : Expr) (m at : ℕ) (more : List ℕ)
@@ -40,8 +41,8 @@ ExpressionsStand =
 
 pub record WholeExpr (names : NameTable) (e : Expr) : Type 0 where
   pub writable : IsWritable names (tree e)
-  pub shallow : opens (tree e) ≤ MAX_EXPR_OPEN
-  pub few : nodes (tree e) ≤ MAX_EXPR_NODES
+  pub shallow : opens (tree e) ≤ most_open_brackets
+  pub few : nodes (tree e) ≤ most_expression_nodes
 
 abbrev pub WholeTest : NameTable → Cond → Type 0
 WholeTest names c = WholeExpr names c.left × WholeExpr names c.right
@@ -67,20 +68,15 @@ pub record WholeAssignment (names : NameTable) (a : AuxAssign) : Type 0 where
 pub record WholeStmt (names : NameTable) (s : Stmt) : Type 0 where
   pub act : WholeAct names (out-Act (out-Stmt s).act)
   pub assignments : All (WholeAssignment names) (out-Stmt s).aux
-  pub few : length (out-Stmt s).aux ≤ MAX_ASSIGNMENTS
+  pub few : length (out-Stmt s).aux ≤ most_assignments
   pub bare : is_test s ≡ true → (out-Stmt s).aux ≡ []
-
--- how many blocks of branches and loops are open at once
-unfoldable pub nesting : Block → ℕ
-nesting done = 0
-nesting (node s a b rest) = max (if is_test s then 1 + max (nesting a) (nesting b) else 0) (nesting rest)
 
 -- a thread within the limits of a text, with a note for each of its points
 pub record WholeThread (names : NameTable) (ss : List Stmt) (notes : List (Plain ViewAtom)) : Type 0 where
   pub table : IsNameTable names
   pub names_are : AreNames names
   pub stmts : All (WholeStmt names) (statements (block ss))
-  pub shallow : nesting (block ss) ≤ MAX_BLOCKS
+  pub shallow : nesting (block ss) ≤ most_open_blocks
   pub points : length notes ≡ size (block ss) + 1
   pub formulas : All (IsWhole formulas.IsWritable names) notes
 
@@ -90,7 +86,7 @@ pub record BodyStands (names : NameTable) (ss : List Stmt) (notes : List (Plain 
   pub body : IsBody names from ss (map (with_atoms raw_of) notes) to
   pub ends : behind_gap to ≡ behind_gap behind
 
--- the text of a thread, at any place and with anything behind it
+-- the text of a thread, at any place and with anything after it
 abbrev pub ThreadStands : NameTable → List Stmt → List (Plain ViewAtom) → Type 0
 ThreadStands names ss notes =
     (at : ℕ) (more : List ℕ) → WholeThread names ss notes

@@ -20,7 +20,7 @@ use Rattle.pg_assertion.specs.Formula.{Plain}
 use Rattle.pg_assertion_text.specs.Input.{Input, Outcome, Parser, ◌>>=◌, ◌>>◌, pure, refuse, allowed, peek, next, node, expect, is_sign, named, location}
 use Rattle.pg_assertion_text.specs.Atoms.{raw_atom}
 use Rattle.pg_assertion_text.specs.Parsing.{formula_at}
-use Rattle.pg_program_text.specs.declared.stmt.TheConstants.{MAX_EXPR_NODES, MAX_EXPR_OPEN, MAX_ASSIGNMENTS}
+use Rattle.pg_program_text.specs.Limits.{most_expression_nodes, most_open_brackets, most_assignments}
 use Rattle.pg_program_text.specs.declared.keyword.Keyword.{Keyword}
 use Rattle.pg_program_text.specs.declared.keyword.Keyword.TheVariants as k
 use Rattle.pg_program_text.specs.Keywords.{keyword}
@@ -37,7 +37,7 @@ abbrev pub within : {A : Type 0} → ℕ → Parser A → Parser A
 within n p = λ i. with_room i.room (p (record i { room = n }))
 
 unfoldable pub expression : NameTable → Parser Expr
-expression names = within MAX_EXPR_NODES (sum (factor_of names MAX_EXPR_OPEN))
+expression names = within most_expression_nodes (sum (factor_of names most_open_brackets))
 
 abbrev pub behind : {A : Type 0} → Input → Result (A × Cursor) TextFault → Outcome A
 behind i (Ok p) = Ok (p.0, record i { cursor = p.1 })
@@ -46,15 +46,16 @@ behind i (Err e) = Err e
 unfoldable pub formula : NameTable → Parser (Plain RawAtom)
 formula names = λ i. behind i (formula_at raw_atom names i.cursor)
 
--- `[ formula ]`, the note of a point
 abbrev pub opens_note : Lexeme → Parser (Unit {0})
 opens_note t = if is_sign s.OpenSquare t.kind then node t.place else refuse t.place Unexpected
 
+-- the `[` of a note, which takes a point
 unfoldable pub opened : Parser (Unit {0})
 opened = do
   t ← next
   opens_note t
 
+-- `[ formula ]`, the note of a point
 unfoldable pub note : NameTable → Parser (Plain RawAtom)
 note names = do
   f ← (opened >> formula names)
@@ -65,15 +66,15 @@ note names = do
 abbrev pub equal_at : Lexeme → Result Bool TextFault
 equal_at t = if is_sign s.Equal t.kind then Ok true else (if is_sign s.NotEqual t.kind then Ok false else Err (At t.place Unexpected))
 
--- what was told, with nothing taken
-abbrev pub told : {A : Type 0} → Result A TextFault → Parser A
-told (Ok a) = pure a
-told (Err e) = λ i. Err e
+-- a result that is settled already, with nothing taken
+abbrev pub settled : {A : Type 0} → Result A TextFault → Parser A
+settled (Ok a) = pure a
+settled (Err e) = λ i. Err e
 
 unfoldable pub test_sign : Parser Bool
 test_sign = do
   t ← next
-  told (equal_at t)
+  settled (equal_at t)
 
 unfoldable pub a_test : NameTable → Parser Cond
 a_test names = do
@@ -94,7 +95,7 @@ last_operand names = do
   a ← operand names
   (expect s.Close >> pure a)
 
--- `( x , expected , desired )`, behind `r := cas`
+-- `( x , expected , desired )`, after `r := cas`
 unfoldable pub swap : NameTable → ℕ → Parser Act
 swap names r = do
   x ← (expect s.Open >> location names)
@@ -112,7 +113,7 @@ abbrev pub assigned_by : NameTable → ℕ → Lexeme → Option Keyword → Par
 assigned_by names r t (Some k.Cas) = next >> swap names r
 assigned_by names r t _ = load_or_assign names r (named names t)
 
--- what stands behind `r :=`
+-- what stands after `r :=`
 unfoldable pub assigned : NameTable → ℕ → Parser Act
 assigned names r = do
   t ← peek
@@ -161,10 +162,10 @@ assignment names n = do
   a ← (one_more t.place n >> expect s.Assign >> expression names)
   pure (record { target = r; expr = a })
 
--- the bracket goes on with a comma, or ends
 abbrev pub goes_on_or_ends : Lexeme → Parser Bool
 goes_on_or_ends t = if is_sign s.Comma t.kind then pure true else (if is_sign s.Greater t.kind then pure false else refuse t.place Unexpected)
 
+-- whether the bracket goes on, by a comma, or ends
 unfoldable pub separator : Parser Bool
 separator = do
   t ← next
@@ -180,11 +181,11 @@ assignments_on names (suc n) found = do
   more ← separator
   if more then assignments_on names n (found ++ a ∷ []) else pure (found ++ a ∷ [])
 
--- `< a := e, .. >`, or nothing
 abbrev pub bracket_by : NameTable → Bool → Parser (List AuxAssign)
-bracket_by names true = next >> assignments_on names MAX_ASSIGNMENTS []
+bracket_by names true = next >> assignments_on names most_assignments []
 bracket_by names false = pure []
 
+-- `< a := e, .. >`, or nothing
 unfoldable pub bracket : NameTable → Parser (List AuxAssign)
 bracket names = do
   t ← peek

@@ -16,7 +16,7 @@ use Rattle.pg_assertion.specs.declared.atom.RawAtom.{RawAtom}
 use Rattle.pg_assertion.specs.Formula.{Plain}
 use Rattle.pg_assertion_text.specs.Input.{Parser, ◌>>=◌, ◌>>◌, pure, refuse, peek, next, expect, is_sign, named}
 use Rattle.pg_assertion_text.specs.Parsing.{placed}
-use Rattle.pg_program_text.specs.declared.thread.TheConstants.{MAX_POINTS, MAX_BLOCKS}
+use Rattle.pg_program_text.specs.Limits.{most_points, most_open_blocks}
 use Rattle.pg_program_text.specs.declared.keyword.Keyword.{Keyword}
 use Rattle.pg_program_text.specs.declared.keyword.Keyword.TheVariants as k
 use Rattle.pg_program_text.specs.Keywords.{keyword}
@@ -62,11 +62,11 @@ simple names = do
 
 -- ---- blocks
 
--- whether the block ends here, and its `}` is taken then
 abbrev pub ends_by : Bool → Parser Bool
 ends_by true = next >> pure true
 ends_by false = pure false
 
+-- whether the block ends here, and its `}` is taken then
 unfoldable pub ends : Parser Bool
 ends = do
   t ← peek
@@ -79,39 +79,42 @@ line names stmt l = do
   a ← stmt
   pure (with_stmt (with_note l f) a)
 
--- The lines of a block up to its `}`. Each has a note, which takes a point, so that there is at most one turn more than
--- there are points to come.
+-- the end of the lines, or one more line and the rest
 abbrev pub line_or_end : NameTable → Parser Noted → (Lines → Parser Lines) → Lines → Bool → Parser Lines
 line_or_end names stmt rest l true = pure l
 line_or_end names stmt rest l false = line names stmt l >>= rest
 
+-- at most n turns
 unfoldable pub lines_on : NameTable → Parser Noted → ℕ → Lines → Parser Lines
 lines_on names stmt zero l = refuse 0 TooMany
 lines_on names stmt (suc n) l = do
   end ← ends
   line_or_end names stmt (lines_on names stmt n) l end
 
+-- The lines of a block up to its `}`. Each has a note, which takes a point, so that there is at most one turn more than
+-- there are points to come.
 unfoldable pub lines : NameTable → Parser Noted → Parser Lines
 lines names stmt = λ i. lines_on names stmt (i.room + 1) no_lines i
 
--- `{ lines }`, if one more block may be open
+-- the fault of a brace that opens one block too many, or of a token that begins no block
 abbrev pub block_fault : Lexeme → TextFault
 block_fault t = At t.place (if is_sign s.OpenBrace t.kind then TooDeep else Unexpected)
 
 abbrev pub refuse_block : Lexeme → Parser Lines
 refuse_block t = λ i. Err (block_fault t)
 
+-- `{ lines }`, if one more block may be open
 abbrev pub block : NameTable → Option (Parser Noted) → Parser Lines
 block names None = next >>= refuse_block
 block names (Some stmt) = expect s.OpenBrace >> lines names stmt
 
 -- ---- branches and loops
 
--- `else` and a block, or no lines
 abbrev pub else_by : NameTable → Option (Parser Noted) → Option Keyword → Parser Lines
 else_by names below (Some k.Else) = next >> block names below
 else_by names below _ = pure no_lines
 
+-- `else` and a block, or no lines
 unfoldable pub else_part : NameTable → Option (Parser Noted) → Parser Lines
 else_part names below = do
   t ← peek
@@ -151,22 +154,22 @@ unfoldable pub statement : NameTable → ℕ → Parser Noted
 statement names zero = statement_in names None
 statement names (suc n) = statement_in names (Some (statement names n))
 
--- ---- the body of a thread: a note, and statements with a note behind each
+-- ---- the body of a thread: a note, and statements with a note after each
 
--- whether a statement begins with this token
 abbrev pub begins_by : NameTable → Lexeme → Option Keyword → Bool
 begins_by names t (Some k.Cas) = false
 begins_by names t (Some k.Else) = false
 begins_by names t (Some _) = true
 begins_by names t None = is_ok (named names t)
 
+-- whether a statement begins with this token
 unfoldable pub begins : NameTable → Lexeme → Bool
 begins names t = begins_by names t (keyword t)
 
 -- a statement after the last note, or none
 abbrev pub stmt_or_end : NameTable → Lines → Bool → Parser (Lines × Bool)
 stmt_or_end names l true = do
-  a ← statement names MAX_BLOCKS
+  a ← statement names most_open_blocks
   pure (with_stmt l a, true)
 stmt_or_end names l false = pure (l, false)
 
@@ -190,6 +193,6 @@ body_on names (suc n) l = do
 abbrev pub body : NameTable → Parser Lines
 body names = λ i. body_on names (i.room + 1) no_lines i
 
--- the body at a place and the place behind it, or the first fault
+-- the body at a place and the place after it, or the first fault
 unfoldable pub thread_at : NameTable → Cursor → Result (Lines × Cursor) TextFault
-thread_at names c = placed (body names (record { cursor = c; room = MAX_POINTS }))
+thread_at names c = placed (body names (record { cursor = c; room = most_points }))

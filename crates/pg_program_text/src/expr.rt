@@ -136,7 +136,7 @@ fn factor_in(
     }
 }
 
-/// What stands behind a `(`, which stands at this place, and the `)`.
+/// What stands after a `(`, which stands at this place, and the `)`.
 #[cycle(expr)]
 fn bracketed(
     alloc: Global,

@@ -30,7 +30,7 @@ pub fn texts_speak_of_names()
 
 /// The spelling of an expression is an expression of the grammar, and stands for that expression: where the declared names
 /// are names of the grammar, each number is below 2^32, no more brackets are open at once than may be, and no word goes on
-/// behind it.
+/// after it.
 pub fn expressions_stand()
     ensures { ExpressionsStand }
 {}

@@ -2,7 +2,7 @@
 //! text.
 //!
 //! What the crate promises the layer above: `parse_thread` gives the body that the grammar (`specs/Grammar.antt`) has at the
-//! lexer's place, no more and no less, and the lexer stands behind it then. Where there is none, the answer is the first fault
+//! lexer's place, no more and no less, and the lexer stands after it then. Where there is none, the answer is the first fault
 //! of the text, and the lexer stays where it stood. `print_thread` appends the canonical text (`specs/Spelling.antt`), a line for
 //! each note and each statement; want of memory leaves the text as it was, and reading what was printed gives the thread again.
 //! The laws in `laws` say of the definitions that a place of a text has one body at most, and that the canonical text is in the

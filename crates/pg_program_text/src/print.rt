@@ -12,6 +12,7 @@ ghost use Rattle.pg_assertion_text.specs.Spelling.{in_brackets, location_name, s
 ghost use Rattle.pg_assertion.specs.Atom.{NamesDeclared};
 ghost use Rattle.pg_program_text.specs.Spelling as spec;
 ghost use Rattle.pg_program_text.specs.Spelling.{tree};
+ghost use Rattle.pg_program_text.specs.DeclaredNames.{IsDeclared, TestDeclared, ActDeclared, AssignmentDeclared, StmtDeclared, BlockDeclared};
 ghost use Rattle.pg_program_text.specs.ReadAgain.{ThreadIsReadAgain};
 
 use itoa::Buffer;
@@ -24,9 +25,9 @@ use std::alloc::AllocError;
 
 /// Appends the spelling of an expression.
 #[cycle(print)]
-#[tactic(auto, unfolding(crate::specs::Spelling::spell, crate::specs::Spelling::Declared))]
+#[tactic(auto, unfolding(crate::specs::Spelling::spell, crate::specs::DeclaredNames::Declared))]
 pub(crate) fn spell_expr(e: &Expr, names: &Names, into: &mut Vec<u8>) -> Result<(), AllocError>
-    requires { spec.IsDeclared names.now e.now }
+    requires { IsDeclared names.now e.now }
     ensures { OnOk result (into.new.items ≡ into.old.items ++ spec.spell names.now (tree e.now)) }
 {
     match e {
@@ -58,7 +59,7 @@ fn spell_operand(
     names: &Names,
     into: &mut Vec<u8>,
 ) -> Result<(), AllocError>
-    requires { spec.IsDeclared names.now e.now }
+    requires { IsDeclared names.now e.now }
     ensures { OnOk result (into.new.items ≡ into.old.items ++ in_brackets bracketed (spec.spell names.now (tree e.now))) }
 {
     if bracketed {
@@ -102,7 +103,7 @@ fn location(x: u8, names: &Names, into: &mut Vec<u8>) -> Result<(), AllocError>
 
 /// Appends the spelling of a test.
 fn spell_test(test: &Cond, names: &Names, into: &mut Vec<u8>) -> Result<(), AllocError>
-    requires { spec.TestDeclared names.now test.now }
+    requires { TestDeclared names.now test.now }
     ensures { OnOk result (into.new.items ≡ into.old.items ++ spec.spell_test names.now test.now) }
 {
     spell_expr(&test.left, names, into)?;
@@ -116,7 +117,7 @@ fn spell_test(test: &Cond, names: &Names, into: &mut Vec<u8>) -> Result<(), Allo
 
 /// Appends ` := e`.
 fn assigned(expr: &Expr, names: &Names, into: &mut Vec<u8>) -> Result<(), AllocError>
-    requires { spec.IsDeclared names.now expr.now }
+    requires { IsDeclared names.now expr.now }
     ensures { OnOk result (into.new.items ≡ into.old.items ++ (codes " := " ++ spec.spell_expr names.now expr.now)) }
 {
     into.extend_from_slice(b" := ")?;
@@ -144,7 +145,7 @@ fn flushed(word: &[u8], x: u8, names: &Names, into: &mut Vec<u8>) -> Result<(), 
 
 /// Appends a word and a test.
 fn tested(word: &[u8], test: &Cond, names: &Names, into: &mut Vec<u8>) -> Result<(), AllocError>
-    requires { spec.TestDeclared names.now test.now }
+    requires { TestDeclared names.now test.now }
     ensures { OnOk result (into.new.items ≡ into.old.items ++ (word.now ++ spec.spell_test names.now test.now)) }
 {
     into.extend_from_slice(word)?;
@@ -153,7 +154,7 @@ fn tested(word: &[u8], test: &Cond, names: &Names, into: &mut Vec<u8>) -> Result
 
 /// Appends what a statement does, but for its bracket and its blocks.
 fn spell_act(act: &Act, names: &Names, into: &mut Vec<u8>) -> Result<(), AllocError>
-    requires { spec.ActDeclared names.now (out-Act act.now) }
+    requires { ActDeclared names.now (out-Act act.now) }
     ensures { OnOk result (into.new.items ≡ into.old.items ++ spec.spell_act names.now (out-Act act.now)) }
 {
     match act {
@@ -195,7 +196,7 @@ fn swapped(
     names: &Names,
     into: &mut Vec<u8>,
 ) -> Result<(), AllocError>
-    requires { (x < length names.now.locations) × spec.IsDeclared names.now expected.now × spec.IsDeclared names.now desired.now }
+    requires { (x < length names.now.locations) × IsDeclared names.now expected.now × IsDeclared names.now desired.now }
     ensures { OnOk result (into.new.items ≡ into.old.items ++ (codes " := cas(" ++ (location_name names.now x ++ (codes ", " ++ (spec.spell_expr names.now expected.now ++ (codes ", " ++ (spec.spell_expr names.now desired.now ++ codes ")"))))))) }
 {
     into.extend_from_slice(b" := cas(")?;
@@ -210,7 +211,7 @@ fn operands(
     names: &Names,
     into: &mut Vec<u8>,
 ) -> Result<(), AllocError>
-    requires { spec.IsDeclared names.now expected.now × spec.IsDeclared names.now desired.now }
+    requires { IsDeclared names.now expected.now × IsDeclared names.now desired.now }
     ensures { OnOk result (into.new.items ≡ into.old.items ++ (codes ", " ++ (spec.spell_expr names.now expected.now ++ (codes ", " ++ (spec.spell_expr names.now desired.now ++ codes ")"))))) }
 {
     into.extend_from_slice(b", ")?;
@@ -222,16 +223,16 @@ fn operands(
 
 /// Appends `a := e`.
 fn spell_assignment(assign: &AuxAssign, names: &Names, into: &mut Vec<u8>) -> Result<(), AllocError>
-    requires { spec.AssignmentDeclared names.now assign.now }
+    requires { AssignmentDeclared names.now assign.now }
     ensures { OnOk result (into.new.items ≡ into.old.items ++ spec.spell_assignment names.now assign.now) }
 {
     scalar(assign.target, names, into)?;
     assigned(&assign.expr, names, into)
 }
 
-/// Appends the assignments behind the first one, and the end of the bracket.
+/// Appends the assignments after the first one, and the end of the bracket.
 fn further(aux: &[AuxAssign], names: &Names, into: &mut Vec<u8>) -> Result<(), AllocError>
-    requires { All (spec.AssignmentDeclared names.now) aux.now }
+    requires { All (AssignmentDeclared names.now) aux.now }
     ensures { OnOk result (into.new.items ≡ into.old.items ++ spec.further names.now aux.now) }
 {
     for assign in aux {
@@ -243,7 +244,7 @@ fn further(aux: &[AuxAssign], names: &Names, into: &mut Vec<u8>) -> Result<(), A
 
 /// Appends a bracket, or nothing.
 fn spell_bracket(aux: &[AuxAssign], names: &Names, into: &mut Vec<u8>) -> Result<(), AllocError>
-    requires { All (spec.AssignmentDeclared names.now) aux.now }
+    requires { All (AssignmentDeclared names.now) aux.now }
     ensures { OnOk result (into.new.items ≡ into.old.items ++ spec.spell_bracket names.now aux.now) }
 {
     match aux {
@@ -320,7 +321,7 @@ pub(crate) fn stmt_line(
     names: &Names,
     into: &mut Vec<u8>,
 ) -> Result<(), AllocError>
-    requires { spec.StmtDeclared names.now stmt.now }
+    requires { StmtDeclared names.now stmt.now }
     ensures { OnOk result (into.new.items ≡ into.old.items ++ spec.stmt_line names.now depth stmt.now) }
 {
     indent(depth, into)?;
@@ -383,7 +384,7 @@ fn second_within(stmt: &Stmt) -> &[Stmt]
 
 // ---- blocks
 
-/// Appends the lines of a statement with those of its blocks, where so many braces are open, and gives the notes behind it.
+/// Appends the lines of a statement with those of its blocks, where so many braces are open, and gives the notes after it.
 #[cycle(lines)]
 fn spell_stmt<'a>(
     stmt: &Stmt,
@@ -393,9 +394,9 @@ fn spell_stmt<'a>(
     into: &mut Vec<u8>,
 ) -> Result<&'a [Formula<ViewAtom>], AllocError>
     requires deep { depth + 1 + (size (block (first_of stmt.now)) + size (block (second_of stmt.now))) < 2 ^ 64 }
-    requires stmt { spec.StmtDeclared names.now stmt.now }
-    requires first { spec.BlockDeclared names.now (block (first_of stmt.now)) }
-    requires second { spec.BlockDeclared names.now (block (second_of stmt.now)) }
+    requires stmt { StmtDeclared names.now stmt.now }
+    requires first { BlockDeclared names.now (block (first_of stmt.now)) }
+    requires second { BlockDeclared names.now (block (second_of stmt.now)) }
     requires notes { All (AllAtoms (NamesDeclared names.now)) (map plain notes.now) }
     ensures rest { IfOk result (λ rest. map plain rest.now ≡ drop (size (block (second_of stmt.now))) (drop (size (block (first_of stmt.now))) (drop 1 (map plain notes.now)))) }
     ensures text { OnOk result (into.new.items ≡ into.old.items ++ spec.stmt_lines names.now depth stmt.now (block (first_of stmt.now)) (block (second_of stmt.now)) (map plain notes.now)) }
@@ -410,7 +411,7 @@ fn spell_stmt<'a>(
     Ok(rest)
 }
 
-/// Appends the lines of a block, where so many braces are open, and gives the notes behind it.
+/// Appends the lines of a block, where so many braces are open, and gives the notes after it.
 #[cycle(lines)]
 pub(crate) fn spell_block<'a>(
     stmts: &[Stmt],
@@ -420,7 +421,7 @@ pub(crate) fn spell_block<'a>(
     into: &mut Vec<u8>,
 ) -> Result<&'a [Formula<ViewAtom>], AllocError>
     requires deep { depth + size (block stmts.now) < 2 ^ 64 }
-    requires stmts { spec.BlockDeclared names.now (block stmts.now) }
+    requires stmts { BlockDeclared names.now (block stmts.now) }
     requires notes { All (AllAtoms (NamesDeclared names.now)) (map plain notes.now) }
     ensures rest { IfOk result (λ rest. map plain rest.now ≡ drop (size (block stmts.now)) (map plain notes.now)) }
     ensures text { OnOk result (into.new.items ≡ into.old.items ++ spec.spell_block names.now depth (block stmts.now) (map plain notes.now)) }

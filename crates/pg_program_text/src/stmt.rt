@@ -7,6 +7,7 @@ ghost use Rattle.pg_lex.specs.Lex.{lexeme};
 ghost use Rattle.pg_assertion.specs.Formula.{plain};
 ghost use Rattle.pg_assertion_text.specs.Input.{Does, Reads};
 ghost use Rattle.pg_assertion_text.specs.Words.{IsText};
+ghost use Rattle.pg_program_text.specs.Limits.{most_assignments};
 ghost use Rattle.pg_program_text.specs.Stmt as spec;
 
 use crate::expr::sum;
@@ -134,7 +135,7 @@ fn last_operand(alloc: Global, tokens: &mut Tokens<'_>, names: &Names) -> Result
     Ok(expr)
 }
 
-/// `( x , expected , desired )`, behind `r := cas`.
+/// `( x , expected , desired )`, after `r := cas`.
 #[tactic(auto, unfolding(crate::specs::Stmt::swap))]
 fn swap(alloc: Global, tokens: &mut Tokens<'_>, names: &Names, target: u8) -> Result<Act, TextFault>
     ensures { Reads (λ a. a) (spec.swap names.now target tokens.old) result tokens.new }
@@ -151,7 +152,7 @@ fn swap(alloc: Global, tokens: &mut Tokens<'_>, names: &Names, target: u8) -> Re
     })
 }
 
-/// What stands behind `r :=`.
+/// What stands after `r :=`.
 #[tactic(auto, unfolding(crate::specs::Stmt::assigned))]
 fn assigned(
     alloc: Global,
@@ -174,7 +175,7 @@ fn assigned(
     Ok(Act::Assign { target, expr })
 }
 
-/// What stands behind a name that begins a statement.
+/// What stands after a name that begins a statement.
 fn to_name(
     alloc: Global,
     tokens: &mut Tokens<'_>,
@@ -294,13 +295,13 @@ fn separator(tokens: &mut Tokens<'_>) -> Result<bool, TextFault>
     }
 }
 
-/// The assignments of a bracket, behind its `<`.
+/// The assignments of a bracket, after its `<`.
 fn assignments(
     alloc: Global,
     tokens: &mut Tokens<'_>,
     names: &Names,
 ) -> Result<Items<AuxAssign>, TextFault>
-    ensures { Reads (λ a. a) (spec.assignments_on names.now MAX_ASSIGNMENTS [] tokens.old) result tokens.new }
+    ensures { Reads (λ a. a) (spec.assignments_on names.now most_assignments [] tokens.old) result tokens.new }
 {
     let mut found = Items::new(alloc);
     'assignments: for i in 0..MAX_ASSIGNMENTS {

@@ -174,7 +174,7 @@ fn statement_in(
     }
 }
 
-/// What stands behind `if`.
+/// What stands after `if`.
 #[cycle(thread)]
 #[tactic(auto, unfolding(crate::specs::Thread::branch))]
 fn branch(
@@ -191,7 +191,7 @@ fn branch(
     Ok(joined(alloc, test, yes, no)?)
 }
 
-/// What stands behind `while`.
+/// What stands after `while`.
 #[cycle(thread)]
 #[tactic(auto, unfolding(crate::specs::Thread::repeat))]
 fn repeat(
@@ -214,7 +214,7 @@ fn repeat(
     })
 }
 
-/// The block behind `else`, or none.
+/// The block after `else`, or none.
 #[cycle(thread)]
 #[tactic(auto, unfolding(crate::specs::Thread::else_part))]
 fn else_part(
@@ -357,7 +357,7 @@ fn body_line(
     Ok(true)
 }
 
-/// The body of a thread: a note, and statements with a note behind each.
+/// The body of a thread: a note, and statements with a note after each.
 fn body(alloc: Global, tokens: &mut Tokens<'_>, names: &Names) -> Result<ThreadText, TextFault>
     ensures { Reads lines (spec.body names.now tokens.old) result tokens.new }
 {
@@ -382,8 +382,8 @@ fn read_thread(alloc: Global, lexer: &mut Lexer<'_>, names: &Names) -> Result<Th
     Ok(text)
 }
 
-/// Reads the body of a thread at the lexer's place, as long as tokens go on with it: a note, and statements with a note behind
-/// each. The lexer stands behind it then, and after a refusal where it stood.
+/// Reads the body of a thread at the lexer's place, as long as tokens go on with it: a note, and statements with a note after
+/// each. The lexer stands after it then, and after a refusal where it stood.
 ///
 /// A fault is the first one of the text: a token that cannot stand there (`Unexpected`), a name that is not declared
 /// (`UnknownName`), the token of a node, an assignment or a point that is one too many (`TooMany`), a `(`, `!` or `{` that opens

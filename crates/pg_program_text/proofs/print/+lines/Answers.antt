@@ -7,7 +7,8 @@ use Rattle.pg_program.specs.Graph.{size}
 use Rattle.pg_assertion.specs.declared.atom.ViewAtom.{ViewAtom}
 use Rattle.pg_assertion.specs.Formula.{Plain, plain, AllAtoms}
 use Rattle.pg_assertion.specs.Atom.{NamesDeclared}
-use Rattle.pg_program_text.specs.Spelling.{spell_block, stmt_lines, BlockDeclared}
+use Rattle.pg_program_text.specs.Spelling.{spell_block, stmt_lines}
+use Rattle.pg_program_text.specs.DeclaredNames.{BlockDeclared}
 use Rattle.pg_program_text.proofs.Spelling.{size_turn, notes_turn, text_turn, declared_turn, all_drop}
 use Rattle.pg_program_text.proofs.print.+lines.Goals as goal
 

@@ -5,6 +5,7 @@ use Rattle.pg_program.specs.Graph.{size}
 use Rattle.pg_assertion.specs.Formula.{plain, AllAtoms}
 use Rattle.pg_assertion.specs.Atom.{NamesDeclared}
 use Rattle.pg_program_text.specs.Spelling as spec
+use Rattle.pg_program_text.specs.DeclaredNames.{BlockDeclared}
 use Rattle.pg_program_text.proofs.print.+lines.Given as goal
 
 -- each call has fewer statements
@@ -14,12 +15,12 @@ decreases-spell_block l = 2 * size (block l.stmts.now) + 1
 abbrev pub decreases-spell_stmt : goal.decreases-spell_stmt
 decreases-spell_stmt l = 2 * (size (block (first_of l.stmt.now)) + size (block (second_of l.stmt.now))) + 2
 
--- the statements so far are appended, and their notes are behind
+-- the statements so far are appended, and their notes are passed
 abbrev pub invariant-spell_block-stmts : goal.invariant-spell_block-stmts
 invariant-spell_block-stmts l =
     let left = block (drop l.stmt-index l.stmts) in
     (l.into.items ++ spec.spell_block l.names l.depth left (map plain l.rest) ≡ l.initial.into.items ++ spec.spell_block l.names l.depth (block l.stmts) (map plain l.notes))
     × (drop (size left) (map plain l.rest) ≡ drop (size (block l.stmts)) (map plain l.notes))
-    × spec.BlockDeclared l.names left
+    × BlockDeclared l.names left
     × All (AllAtoms (NamesDeclared l.names)) (map plain l.rest)
     × (size left ≤ size (block l.stmts))

@@ -1,9 +1,9 @@
 use Rattle.std.proofs.Common.{◌≡◌, ◌-◌, []}
-use Rattle.pg_program_text.specs.declared.stmt.TheConstants.{MAX_ASSIGNMENTS}
+use Rattle.pg_program_text.specs.Limits.{most_assignments}
 use Rattle.pg_program_text.specs.Stmt as spec
 use Rattle.pg_program_text.proofs.stmt.assignments.Given as goal
 
 -- the assignments that are left give what all of them give
 abbrev pub invariant-assignments : goal.invariant-assignments
 invariant-assignments l =
-    spec.assignments_on l.names MAX_ASSIGNMENTS [] l.fn.tokens ≡ spec.assignments_on l.names (MAX_ASSIGNMENTS - l.i) l.found l.tokens
+    spec.assignments_on l.names most_assignments [] l.fn.tokens ≡ spec.assignments_on l.names (most_assignments - l.i) l.found l.tokens
