@@ -6,7 +6,7 @@ use Rattle.pg_program.specs.NameTable.{NameTable}
 use Rattle.pg_assertion.specs.declared.atom.ViewAtom.{ViewAtom}
 use Rattle.pg_assertion.specs.declared.atom.CrashAtom.{CrashAtom}
 use Rattle.pg_assertion.specs.Formula.{Plain, with_atoms}
-use Rattle.pg_assertion_text.specs.declared.parse.TheConstants.{MAX_NODES, MAX_OPEN}
+use Rattle.pg_assertion_text.specs.Limits.{most_nodes, most_open}
 use Rattle.pg_assertion_text.specs.Atoms.{raw_atom, crash_atom, IsRaw, IsCrash}
 use Rattle.pg_assertion_text.proofs.AtomLaws.{raw_found, raw_again, raw_begins, crash_found, crash_again, crash_begins}
 use Rattle.pg_assertion_text.specs.Follows.{Stops}
@@ -22,8 +22,8 @@ pub formulas_read_again : FormulasAreReadAgain
 formulas_read_again names f at more whole ends stops =
     formula_at_reads raw_atom IsRaw raw_found raw_again raw_begins names (cursor at (spell (spell_atom names) f ++ more)) (cursor (at + length (spell (spell_atom names) f)) more)
     (with_atoms raw_of f) (record {
-      is = spelling_stands names f MAX_OPEN at more whole.table whole.names_are whole.atoms whole.shallow ends;
-      few = subst (λ k. k ≤ MAX_NODES) (sym (nodes-with_atoms raw_of f)) whole.few;
+      is = spelling_stands names f most_open at more whole.table whole.names_are whole.atoms whole.shallow ends;
+      few = subst (λ k. k ≤ most_nodes) (sym (nodes-with_atoms raw_of f)) whole.few;
       stops = stops;
     })
 
@@ -31,7 +31,7 @@ pub crash_formulas_read_again : CrashFormulasAreReadAgain
 crash_formulas_read_again names f at more whole ends stops =
     formula_at_reads crash_atom IsCrash crash_found crash_again crash_begins names (cursor at (spell (spell_crash names) f ++ more)) (cursor (at + length (spell (spell_crash names) f)) more)
     f (record {
-      is = crash_spelling_stands names f MAX_OPEN at more whole.table whole.names_are whole.atoms whole.shallow ends;
+      is = crash_spelling_stands names f most_open at more whole.table whole.names_are whole.atoms whole.shallow ends;
       few = whole.few;
       stops = stops;
     })

@@ -8,7 +8,7 @@ use Rattle.pg_lex.specs.Lex.{Cursor}
 use Rattle.pg_program.specs.NameTable.{NameTable}
 use Rattle.pg_assertion.specs.declared.formula.Formula.{Formula}
 use Rattle.pg_assertion.specs.Formula.{Plain, plain}
-use Rattle.pg_assertion_text.specs.declared.parse.TheConstants.{MAX_NODES, MAX_OPEN}
+use Rattle.pg_assertion_text.specs.Limits.{most_nodes, most_open}
 use Rattle.pg_assertion_text.specs.Input.{Input, Outcome, Parser}
 use Rattle.pg_assertion_text.specs.Reading.{formula}
 use Rattle.pg_assertion_text.specs.Laws.{FindsAtoms, ReadsAtoms, BeginsAtoms}
@@ -34,12 +34,12 @@ module _ {T : Type 0} (read : NameTable → Parser T) (stands : NameTable → Cu
   pub formula_at_found : (names : NameTable) (c to : Cursor) (f : Plain T) → formula_at read names c ≡ Ok (f, to) → IsFormula stands names c f to
   unfolding formula_at
   formula_at_found names c to f h =
-      placed_then (formula (read names) MAX_OPEN (at c MAX_NODES)) f to h (λ j reads behind.
-      let found = formula_found names (read names) (stands names) (λ i j a r. finds names i j a r) MAX_OPEN (at c MAX_NODES) j f reads in
+      placed_then (formula (read names) most_open (at c most_nodes)) f to h (λ j reads behind.
+      let found = formula_found names (read names) (stands names) (λ i j a r. finds names i j a r) most_open (at c most_nodes) j f reads in
       subst (IsFormula stands names c f) behind (record {
         is = found.is;
         few = let room = found.room in omega arith;
-        stops = formula_stopped (unary (read names) MAX_OPEN) (at c MAX_NODES) j f reads;
+        stops = formula_stopped (unary (read names) most_open) (at c most_nodes) j f reads;
       }))
 
   -- the formula of the grammar is what is read
@@ -47,7 +47,7 @@ module _ {T : Type 0} (read : NameTable → Parser T) (stands : NameTable → Cu
   unfolding formula_at
   formula_at_reads names c to f is =
       ap placed (formula_reads names (read names) (stands names) (λ from to a r st some. again names (at from r) a to st some) (λ from to a st. begins names from to a st)
-      MAX_OPEN MAX_NODES c to f is.is is.few is.stops)
+      most_open most_nodes c to f is.is is.few is.stops)
 
   pub one_reading : HasOneReading stands
   one_reading names c a b f g first second =

@@ -11,7 +11,7 @@ use Rattle.pg_assertion.specs.declared.atom.CrashAtom.{CrashAtom}
 use Rattle.pg_assertion.specs.declared.atom.CrashAtom.TheVariants as crash
 use Rattle.pg_assertion.specs.Atom.{raw_of}
 use Rattle.pg_assertion.specs.Formula.{Plain, top, bottom, atom, neg, both, either, implies, AllAtoms, with_atoms}
-use Rattle.pg_assertion_text.specs.declared.parse.TheConstants.{MAX_NODES, MAX_OPEN}
+use Rattle.pg_assertion_text.specs.Limits.{most_nodes, most_open}
 use Rattle.pg_assertion_text.specs.Atoms.{raw_items, crash_items, IsRaw, IsCrash}
 use Rattle.pg_assertion_text.specs.Grammar.{Rule, unary, conj, disj, formula, Is, a_true, a_false, an_atom, a_not, a_bracket, a_conj, an_and, a_disj, an_or, a_formula, an_implies}
 use Rattle.pg_assertion_text.specs.Spelling.{AreNames, opens, rule_of, is_loose, bracket}
@@ -163,23 +163,23 @@ module _ {T U : Type 0} (image : T → U) where
 
 pub formulas_are_within : FormulasAreWithin
 formulas_are_within names from to f is = record {
-  atoms = atoms names (IsRaw names) (IsWritableRaw names) (raw_writable names) formula MAX_OPEN from f to is.is;
-  shallow = let low = levels names (IsRaw names) formula MAX_OPEN from f to is.is in omega arith;
+  atoms = atoms names (IsRaw names) (IsWritableRaw names) (raw_writable names) formula most_open from f to is.is;
+  shallow = let low = levels names (IsRaw names) formula most_open from f to is.is in omega arith;
   few = is.few;
 }
 
 pub crash_formulas_are_within : CrashFormulasAreWithin
 crash_formulas_are_within names from to f is = record {
-  atoms = atoms names (IsCrash names) (IsWritableCrash names) (crash_writable names) formula MAX_OPEN from f to is.is;
-  shallow = let low = levels names (IsCrash names) formula MAX_OPEN from f to is.is in omega arith;
+  atoms = atoms names (IsCrash names) (IsWritableCrash names) (crash_writable names) formula most_open from f to is.is;
+  shallow = let low = levels names (IsCrash names) formula most_open from f to is.is in omega arith;
   few = is.few;
 }
 
 assertion_within : (names : NameTable) (g : Plain ViewAtom) → IsWithin IsWritableRaw names (with_atoms raw_of g) → IsWithin IsWritable names g
 assertion_within names g h = record {
   atoms = each-with_atoms raw_of (IsWritableRaw names) (IsWritable names) (view_writable names) g h.atoms;
-  shallow = subst (λ n. n ≤ MAX_OPEN) (opens-with_atoms raw_of g) h.shallow;
-  few = subst (λ n. n ≤ MAX_NODES) (nodes-with_atoms raw_of g) h.few;
+  shallow = subst (λ n. n ≤ most_open) (opens-with_atoms raw_of g) h.shallow;
+  few = subst (λ n. n ≤ most_nodes) (nodes-with_atoms raw_of g) h.few;
 }
 
 pub assertions_are_within : AssertionsAreWithin

@@ -6,7 +6,7 @@ use Rattle.pg_lex.specs.Lex.{Cursor}
 use Rattle.pg_program.specs.NameTable.{NameTable}
 use Rattle.pg_assertion.specs.declared.formula.Formula.{Formula}
 use Rattle.pg_assertion.specs.Formula.{Plain, plain, nodes}
-use Rattle.pg_assertion_text.specs.declared.parse.TheConstants.{MAX_NODES, MAX_OPEN}
+use Rattle.pg_assertion_text.specs.Limits.{most_nodes, most_open}
 use Rattle.pg_assertion_text.specs.Input.{Outcome, Parser}
 use Rattle.pg_assertion_text.specs.Reading.{formula}
 use Rattle.pg_assertion_text.specs.Grammar as grammar
@@ -17,8 +17,8 @@ use Rattle.pg_assertion_text.specs.Follows.{Stops}
 
 -- A formula of the grammar within the limits, which no token goes on with: what there is to read at a place.
 pub record IsFormula {T : Type 0} (stands : NameTable → Cursor → T → Cursor → Type 0) (names : NameTable) (from : Cursor) (f : Plain T) (to : Cursor) : Type 0 where
-  pub is : Is names (stands names) grammar.formula MAX_OPEN from f to
-  pub few : nodes f ≤ MAX_NODES
+  pub is : Is names (stands names) grammar.formula most_open from f to
+  pub few : nodes f ≤ most_nodes
   pub stops : Stops to
 
 -- the answer is this formula, want of memory aside
@@ -38,7 +38,7 @@ placed (Err e) = Err e
 
 -- the formula at a place and the place after it, or the first fault
 unfoldable pub formula_at : {T : Type 0} → (NameTable → Parser T) → NameTable → Cursor → Result (Plain T × Cursor) TextFault
-formula_at read names c = placed (formula (read names) MAX_OPEN (record { cursor = c; room = MAX_NODES }))
+formula_at read names c = placed (formula (read names) most_open (record { cursor = c; room = most_nodes }))
 
 -- the outcome, unless memory runs out
 abbrev pub ReadsAt : {T : Type 0} → Result (Plain T × Cursor) TextFault → Result (Formula T) TextFault → Cursor → Type 0

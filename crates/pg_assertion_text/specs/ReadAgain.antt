@@ -4,7 +4,7 @@ use Rattle.pg_program.specs.NameTable.{NameTable, IsNameTable}
 use Rattle.pg_assertion.specs.declared.atom.ViewAtom.{ViewAtom}
 use Rattle.pg_assertion.specs.declared.atom.CrashAtom.{CrashAtom}
 use Rattle.pg_assertion.specs.Formula.{Plain, nodes, AllAtoms, with_atoms}
-use Rattle.pg_assertion_text.specs.declared.parse.TheConstants.{MAX_NODES, MAX_OPEN}
+use Rattle.pg_assertion_text.specs.Limits.{most_nodes, most_open}
 use Rattle.pg_assertion_text.specs.Atoms.{raw_atom, crash_atom}
 use Rattle.pg_assertion_text.specs.Parsing.{formula_at}
 use Rattle.pg_assertion_text.specs.Follows.{Stops}
@@ -18,8 +18,8 @@ pub record IsWhole {T : Type 0} (Writable : NameTable → T → Type 0) (names :
   pub table : IsNameTable names
   pub names_are : AreNames names
   pub atoms : AllAtoms (Writable names) f
-  pub shallow : opens f ≤ MAX_OPEN
-  pub few : nodes f ≤ MAX_NODES
+  pub shallow : opens f ≤ most_open
+  pub few : nodes f ≤ most_nodes
 
 -- at any place, where a token follows that no formula goes on with
 abbrev pub FormulasAreReadAgain : Type 0

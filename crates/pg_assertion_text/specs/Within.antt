@@ -8,7 +8,7 @@ use Rattle.pg_assertion.specs.declared.atom.RawAtom.TheVariants as raw
 use Rattle.pg_assertion.specs.declared.atom.CrashAtom.{CrashAtom}
 use Rattle.pg_assertion.specs.Atom.{RawDeclared, raw_of}
 use Rattle.pg_assertion.specs.Formula.{Plain, nodes, AllAtoms, with_atoms}
-use Rattle.pg_assertion_text.specs.declared.parse.TheConstants.{MAX_NODES, MAX_OPEN}
+use Rattle.pg_assertion_text.specs.Limits.{most_nodes, most_open}
 use Rattle.pg_assertion_text.specs.Atoms.{IsRaw, IsCrash}
 use Rattle.pg_assertion_text.specs.Parsing.{IsFormula}
 use Rattle.pg_assertion_text.specs.Spelling.{opens}
@@ -33,8 +33,8 @@ IsWritableRaw names a = RawDeclared names a × RawFits a
 -- The limits of a text are kept by a formula: its atoms can be written, and it has few levels and few nodes.
 pub record IsWithin {T : Type 0} (Writable : NameTable → T → Type 0) (names : NameTable) (f : Plain T) : Type 0 where
   pub atoms : AllAtoms (Writable names) f
-  pub shallow : opens f ≤ MAX_OPEN
-  pub few : nodes f ≤ MAX_NODES
+  pub shallow : opens f ≤ most_open
+  pub few : nodes f ≤ most_nodes
 
 -- Each formula that there is to read at a place keeps them.
 abbrev pub FormulasAreWithin : Type 0

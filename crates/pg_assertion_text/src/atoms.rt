@@ -164,7 +164,7 @@ pub trait ReadAtom: Drop {
     /// Its grammar: from one place of a text to another there stands this atom.
     ghost stands: { NameTable → Cursor → Self → Cursor → Type 0 };
 
-    /// Reads an atom.
+    /// Reads an atom. After a fault the tokens stand somewhere in it.
     fn read(tokens: &mut Tokens<'_>, names: &Names) -> Result<Self, TextFault>
         ensures { Does (λ a. a) (read names.now tokens.old) result tokens.new };
 

@@ -62,7 +62,7 @@ fn implied<T: Drop>(
     Ok(whole)
 }
 
-/// A formula, in which so many brackets and `!` may be open at once.
+/// A formula, in which so many brackets and `!` may be open at once. After a fault the tokens stand somewhere in it.
 #[cycle(formula)]
 #[tactic(auto, unfolding(crate::specs::Reading::formula_of, crate::specs::Reading::arrows))]
 pub fn formula<T: ReadAtom>(

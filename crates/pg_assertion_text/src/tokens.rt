@@ -42,6 +42,10 @@ pub fn is_reserved(word: &str) -> bool
 }
 
 /// Reads tokens one by one. Contracts see it as an `Input`.
+///
+/// A fault of `peek`, `next`, `node` or `goes_on` leaves the tokens where they stood; after one of `expect`, `number` or
+/// `location` they may stand after the token that is refused. No clause says so: who reads on after a fault goes back
+/// first (`go_to`).
 #[derive(Drop)]
 pub struct Tokens<'a> {
     lexer: Lexer<'a>,
@@ -83,7 +87,7 @@ impl<'a> Tokens<'a> {
         self.lexer = lexer.fork();
     }
 
-    /// How many turns a chain of nodes takes at most.
+    /// How many turns a chain of nodes takes at most: each turn but the last takes a node.
     pub fn turns(&self) -> u64
         ensures { result ≡ self.now.room + 1 }
     {
@@ -138,7 +142,7 @@ impl<'a> Tokens<'a> {
         }
     }
 
-    /// Takes a sign that has to come.
+    /// Takes a sign that has to come. A fault may have taken another token.
     #[tactic(auto, unfolding(crate::specs::Input::expect))]
     pub fn expect(&mut self, sign: Sign) -> Result<(), TextFault>
         ensures { Does (λ u. u) (spec.expect sign self.old) result self.new }
@@ -151,7 +155,7 @@ impl<'a> Tokens<'a> {
         }
     }
 
-    /// Takes a number.
+    /// Takes a number. A fault may have taken another token.
     #[tactic(auto, unfolding(crate::specs::Input::number))]
     pub fn number(&mut self) -> Result<u32, TextFault>
         ensures { Does (λ n. n) (spec.number self.old) result self.new }
@@ -163,7 +167,7 @@ impl<'a> Tokens<'a> {
         }
     }
 
-    /// Takes the name of a location.
+    /// Takes the name of a location. A fault may have taken another token.
     #[tactic(auto, unfolding(crate::specs::Input::location))]
     pub fn location(&mut self, names: &Names) -> Result<u8, TextFault>
         ensures { Does (λ n. n) (spec.location names.now self.old) result self.new }
