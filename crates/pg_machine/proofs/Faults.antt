@@ -9,13 +9,13 @@ use Rattle.pg_program.specs.Program.{ProgramTable, stmt_at}
 use Rattle.pg_machine.specs.declared.event.Event.{Event}
 use Rattle.pg_machine.specs.declared.fault.StepFault.{StepFault}
 use Rattle.pg_machine.specs.declared.fault.StepFault.TheVariants.{NoThread, Ended, NotAPosition, BelowCoherence, Hidden, NoMemory}
-use Rattle.pg_machine.specs.declared.fault.TheConstants.{MAX_MESSAGES}
+use Rattle.pg_machine.specs.Limits.{most_messages}
 use Rattle.pg_machine.specs.Memory.{is_at, every_below, hides, is_clear, reaches}
 use Rattle.pg_machine.specs.State.{State, coh_of, point_of}
 use Rattle.pg_machine.specs.Moves.{Seen}
 use Rattle.pg_machine.specs.Step.{Left, Row, HasThread, seen_by, act_of, IsStep}
 use Rattle.pg_machine.specs.Fault.{IsLeastHiding, ChoiceFault, RowFault, ActFault, IsFault}
-use Rattle.pg_machine.specs.Held.{IsRefusal, IsTaken}
+use Rattle.pg_machine.specs.Refusal.{IsRefusal, IsTaken}
 use Rattle.pg_machine.proofs.EveryBelow.{every_below-at}
 use Rattle.pg_machine.proofs.Scan.{is_at-within}
 
@@ -110,10 +110,10 @@ row-one d n r (If t y z) (Some p) f g h k = h ∙ sym k
 row-one d n r (While t y) None f g h k = absurd h
 row-one d n r (While t y) (Some p) f g h k = h ∙ sym k
 
-too-many : (ms : List (ℕ × ℕ)) (m : ℕ × ℕ) (k : ℕ) → MAX_MESSAGES ≤ length ms → k ≡ length (ms ++ m ∷ []) → k ≤ MAX_MESSAGES → ⊥
+too-many : (ms : List (ℕ × ℕ)) (m : ℕ × ℕ) (k : ℕ) → most_messages ≤ length ms → k ≡ length (ms ++ m ∷ []) → k ≤ most_messages → ⊥
 too-many ms m k full is few = let more = length_push ms m in absurd (omega (arith, full, is, more, few))
 
-row-none : (d : ℕ) (n : Seen) (r : List ℕ) (a : Act-F Act Stmt) (c : Option ℕ) (f : StepFault) (left : Left) → RowFault d n r a c f → Row d n r a c left → length left.seen.memory.messages ≤ MAX_MESSAGES → ⊥
+row-none : (d : ℕ) (n : Seen) (r : List ℕ) (a : Act-F Act Stmt) (c : Option ℕ) (f : StepFault) (left : Left) → RowFault d n r a c f → Row d n r a c left → length left.seen.memory.messages ≤ most_messages → ⊥
 row-none d n r (Load q x) None f left h row few = row
 row-none d n r (Load q x) (Some p) f left h row few = choice-unread n x p n.views.vrn f h row.0
 row-none d n r (Cas q x e t) (Some p) f left (inl h) row few = choice-unread n x p _ f h row.0
@@ -172,21 +172,21 @@ one_fault p s e (NoThread t) g h k = no_thread p s e t h.0 h.1 g k
 one_fault p s e Ended g h k = ended p s e h.0 h.1 g k
 one_fault p s e f g h k = acts p s e f h g k
 
-act-none : (p : ProgramTable) (s : State) (e : Event) (f : StepFault) (next : State) → ActFault p s e f → IsStep p s e next → length next.memory.messages ≤ MAX_MESSAGES → ⊥
+act-none : (p : ProgramTable) (s : State) (e : Event) (f : StepFault) (next : State) → ActFault p s e f → IsStep p s e next → length next.memory.messages ≤ most_messages → ⊥
 act-none p s e f next h step few =
     let same = stands-one (stmt_at p e.thread (point_of s e.thread)) h.stmt step.stmt h.stands step.stands in
     let row = subst (λ (a : Stmt). RowFault p.names.domain (seen_by s e.thread) s.scalars (act_of a) e.choice f) same h.row in
     let long = ap (λ (n : State). length n.memory.messages) step.becomes in
     row-none p.names.domain (seen_by s e.thread) s.scalars (act_of step.stmt) e.choice f step.left row step.row (omega (arith, long, few))
 
-pub fault_has_no_step : (p : ProgramTable) (s : State) (e : Event) (f : StepFault) (next : State) → IsFault p s e f → IsStep p s e next → length next.memory.messages ≤ MAX_MESSAGES → ⊥
+pub fault_has_no_step : (p : ProgramTable) (s : State) (e : Event) (f : StepFault) (next : State) → IsFault p s e f → IsStep p s e next → length next.memory.messages ≤ most_messages → ⊥
 fault_has_no_step p s e (NoThread t) next h step few = outside p e t h.0 h.1 step.thread
 fault_has_no_step p s e Ended next h step few = let a = h.1 in let b = step.stands in cc
 fault_has_no_step p s e f next h step few = act-none p s e f next h step few
 
 -- ---- the answer of a step
 
--- an act has neither of the two faults that tell of no statement
+-- an act has neither of the two faults of an event without a statement
 abbrev has_statement : StepFault → Bool
 has_statement (NoThread t) = false
 has_statement Ended = false
@@ -238,7 +238,7 @@ pub record Answered (p : ProgramTable) (s : State) (e : Event) (new : State) (sp
   pub stmt : Stmt
   pub stands : stmt_at p e.thread (point_of s e.thread) ≡ Some stmt
   pub ok : OnOk r (IsStep p s e new)
-  pub few : length new.memory.messages ≤ MAX_MESSAGES
+  pub few : length new.memory.messages ≤ most_messages
   pub err : IfErr r (IsRefusal (ActFault p s e) spare)
 
 refuses-exactly : (p : ProgramTable) (s : State) (e : Event) (stmt : Stmt) (spare : ℕ) (g f : StepFault) → HasThread p e → stmt_at p e.thread (point_of s e.thread) ≡ Some stmt
@@ -254,7 +254,7 @@ pub answers_steps : (p : ProgramTable) (s : State) (e : Event) (new : State) (sp
 answers_steps p s e new spare (Ok u) h = λ next step few. search rules
 answers_steps p s e new spare (Err g) h = λ next step few. by g h.err next step few
   where
-    by : (g : StepFault) → IsRefusal (ActFault p s e) spare g → (next : State) → IsStep p s e next → length next.memory.messages ≤ MAX_MESSAGES → g ≡ NoMemory
+    by : (g : StepFault) → IsRefusal (ActFault p s e) spare g → (next : State) → IsStep p s e next → length next.memory.messages ≤ most_messages → g ≡ NoMemory
     by g (inl act) next step few = absurd (fault_has_no_step p s e g next (act_is_fault p s e g act) step few)
     by g (inr (is, none, free)) next step few = is
 

@@ -15,7 +15,9 @@ use Rattle.pg_machine.specs.State.{Views, State, point_of}
 use Rattle.pg_machine.specs.Moves.{Seen}
 use Rattle.pg_machine.specs.Step.{Left, leaves, act_of, branch_taken, views_of, seen_by, moved, IsStep}
 use Rattle.pg_machine.specs.Fault.{RowFault, ActFault}
-use Rattle.pg_machine.specs.Held.{Held, HeldMemory, seen_in, Does, IsRefusal}
+use Rattle.pg_machine.specs.Held.{Held, HeldMemory}
+use Rattle.pg_machine.specs.Refusal.{IsRefusal}
+use Rattle.pg_machine.specs.StepParts.{seen_in, Does}
 
 -- the slice of a vector, written back
 pub refill : {X : Type 0} (n : ℕ) (new old : List X) → length new ≡ n → take n (new ++ drop (length new) old) ≡ new

@@ -17,7 +17,7 @@ use Rattle.pg_machine.specs.Memory.{Memory, value_at, last_value}
 use Rattle.pg_machine.specs.Moves.{Seen}
 use Rattle.pg_machine.specs.Step.{branch_taken, assigned}
 use Rattle.pg_machine.specs.Fault.{IsFull, RowFault}
-use Rattle.pg_machine.specs.Held.{IsRefusal}
+use Rattle.pg_machine.specs.Refusal.{IsRefusal}
 
 pub all_left : (n : ℕ) (xs ys : List ℕ) → All (λ r. r < n) (xs ++ ys) → All (λ r. r < n) xs
 all_left n [] ys h = All-nil (λ (r : ℕ). r < n)

@@ -8,7 +8,7 @@ use Rattle.pg_program.specs.Program.{ProgramTable, stmt_at}
 use Rattle.pg_machine.specs.declared.event.Event.{Event}
 use Rattle.pg_machine.specs.declared.fault.StepFault.{StepFault}
 use Rattle.pg_machine.specs.declared.fault.StepFault.TheVariants.{NoThread, Ended, NoChoice, ChoiceMissing, NotAPosition, BelowCoherence, Hidden, CasMustDiffer, CasNotLast, MessagesFull}
-use Rattle.pg_machine.specs.declared.fault.TheConstants.{MAX_MESSAGES}
+use Rattle.pg_machine.specs.Limits.{most_messages}
 use Rattle.pg_machine.specs.Memory.{Memory, is_at, hides, value_at, last_value}
 use Rattle.pg_machine.specs.State.{State, coh_of, maxcoh, point_of}
 use Rattle.pg_machine.specs.Moves.{Seen, can_read, fenced}
@@ -29,7 +29,7 @@ ChoiceFault n x p bound fault = ⊥
 
 -- there are as many messages as there may be
 abbrev pub IsFull : Memory → Type 0
-IsFull m = MAX_MESSAGES ≤ length m.messages
+IsFull m = most_messages ≤ length m.messages
 
 -- The faults of each act, with the position that the event chooses. A load's choice is hidden up to the read view, and
 -- that of a failing cas up to the greatest coherence view. All other acts choose none.
@@ -66,4 +66,4 @@ HasOneFault = (p : ProgramTable) (s : State) (e : Event) (f g : StepFault) → I
 -- and where it has one, it leads to no state within the limit of messages
 abbrev pub FaultHasNoStep : Type 0
 FaultHasNoStep =
-    (p : ProgramTable) (s : State) (e : Event) (f : StepFault) (next : State) → IsFault p s e f → IsStep p s e next → length next.memory.messages ≤ MAX_MESSAGES → ⊥
+    (p : ProgramTable) (s : State) (e : Event) (f : StepFault) (next : State) → IsFault p s e f → IsStep p s e next → length next.memory.messages ≤ most_messages → ⊥

@@ -1,17 +1,7 @@
 -- What a contract sees of the machine's own types: beside a memory or a state, for how many more messages there is room.
-use Rattle.std.specs.Prelude.{◌≡◌, ℕ, ◌<◌, ◌≤◌, ◌⊎◌, Bool, true, false, List, Option, Result, All, IfErr, length}
-use Rattle.pg_machine.specs.declared.fault.StepFault.{StepFault}
-use Rattle.pg_machine.specs.declared.fault.StepFault.TheVariants.{NoMemory}
+use Rattle.std.specs.Prelude.{ℕ}
 use Rattle.pg_machine.specs.Memory.{Memory}
-use Rattle.pg_machine.specs.State.{Views, State}
-use Rattle.pg_machine.specs.Moves.{Seen}
-use Rattle.pg_program.specs.declared.syntax.Stmt.{Stmt}
-use Rattle.pg_program.specs.declared.syntax.Act.{Act}
-use Rattle.pg_program.specs.declared.syntax.Act.TheOpen.{Act-F, Load, Store, Cas}
-use Rattle.pg_program.specs.Program.{ProgramTable}
-use Rattle.pg_machine.specs.declared.event.Event.{Event}
-use Rattle.pg_machine.specs.declared.fault.TheConstants.{MAX_MESSAGES}
-use Rattle.pg_machine.specs.Step.{Left, Row, IsStep, act_of, bracket_of, bracket_done}
+use Rattle.pg_machine.specs.State.{State}
 
 pub record HeldMemory : Type 0 where
   pub memory : Memory
@@ -20,40 +10,3 @@ pub record HeldMemory : Type 0 where
 pub record Held : Type 0 where
   pub state : State
   pub spare : ℕ
-
--- a memory, and the views of a thread that acts on it
-abbrev pub seen_in : HeldMemory → Views → Seen
-seen_in m w = record { memory = m.memory; views = w }
-
--- a refusal is one of these faults, or, where there is none, want of memory without a spare message
-abbrev pub IsRefusal : (StepFault → Type 0) → ℕ → StepFault → Type 0
-IsRefusal Faults spare fault = Faults fault ⊎ ((fault ≡ NoMemory) × (spare ≡ 0) × ((f : StepFault) → Faults f → ⊥))
-
--- an answer to an event that leads to a state within the limit of messages is no fault: where it refuses, memory was wanting
-abbrev pub IsTaken : ProgramTable → State → Event → Result (Unit {0}) StepFault → Type 0
-IsTaken p s e answer =
-    (next : State) → IsStep p s e next → length next.memory.messages ≤ MAX_MESSAGES → IfErr answer (λ f. f ≡ NoMemory)
-
--- a thread has each of its views at each location of the memory
-pub record AreSized (m : HeldMemory) (w : Views) : Type 0 where
-  pub coh : length w.coh ≡ length m.memory.initial
-  pub vpa : length w.vpa ≡ length m.memory.initial
-  pub vpc : length w.vpc ≡ length m.memory.initial
-
--- each value of the memory is below d
-pub record AreBelow (d : ℕ) (m : HeldMemory) : Type 0 where
-  pub initial : All (λ v. v < d) m.memory.initial
-  pub messages : All (λ s. s.1 < d) m.memory.messages
-
--- the acts that read or write a location
-abbrev pub needs_memory : Act-F Act Stmt → Bool
-needs_memory (Load q x) = true
-needs_memory (Store x e) = true
-needs_memory (Cas q x e f) = true
-needs_memory act = false
-
--- what a statement leaves: its act leaves what its row says, and then its bracket takes effect
-pub record Does (d : ℕ) (n : Seen) (r : List ℕ) (stmt : Stmt) (choice : Option ℕ) (after : Left) : Type 0 where
-  pub left : Left
-  pub row : Row d n r (act_of stmt) choice left
-  pub becomes : after ≡ record left { scalars = bracket_done d (bracket_of stmt) left.scalars }

@@ -1,6 +1,9 @@
+pub mod Limits
 pub mod Memory
 pub mod State
 pub mod Moves
 pub mod Step
 pub mod Fault
 pub mod Held
+pub mod Refusal
+pub mod StepParts

@@ -52,6 +52,6 @@ last ms x = last_upto ms x (length ms)
 abbrev pub last_value : Memory → ℕ → ℕ
 last_value m x = value_at m x (last m.messages x)
 
--- a message behind all others: its location, and its value
+-- a message after all others: its location, and its value
 abbrev pub message_appended : Memory → ℕ × ℕ → Memory
 message_appended m st = record m { messages = m.messages ++ st ∷ [] }

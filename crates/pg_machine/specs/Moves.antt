@@ -52,7 +52,7 @@ sfence_seen w = record w { vpr = maxcoh w; vpc = (written_back w).vpc }
 abbrev pub flush_seen : Views → ℕ → Views
 flush_seen w x = vpc_raised (vpa_raised w x (maxcoh w)) x (maxcoh w)
 
--- a `flushopt` of x: its asynchronous view becomes its maximum with what the flush is ordered behind
+-- a `flushopt` of x: its asynchronous view becomes its maximum with what the flush is ordered after
 abbrev pub flushopt_seen : Views → ℕ → Views
 flushopt_seen w x = vpa_raised w x (ordered w x)
 

@@ -39,7 +39,7 @@ vpa_of w x = slice_index w.vpa x
 abbrev pub vpc_of : Views → ℕ → ℕ
 vpc_of w x = slice_index w.vpc x
 
--- what a `flushopt` of x is ordered behind: the thread's coherence view of x, and its ready view
+-- what a `flushopt` of x is ordered after: the thread's coherence view of x, and its ready view
 abbrev pub ordered : Views → ℕ → ℕ
 ordered w x = max (coh_of w x) w.vpr
 

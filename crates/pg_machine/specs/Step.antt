@@ -25,7 +25,7 @@ leaves n scalars = record { seen = n; scalars = scalars }
 -- The row of each act, with the position that the event chooses: where it may be taken, and what it leaves. A load may
 -- read at any position that the thread may read at. A cas without a choice succeeds: the last value is the expected one.
 -- A cas with a choice fails, also where the last value is the expected one: it reads another value, at a position that the
--- thread may read at behind an `mfence`. All expressions have their values over the scalars before the step, modulo d.
+-- thread may read at after an `mfence`. All expressions have their values over the scalars before the step, modulo d.
 abbrev pub Row : ℕ → Seen → List ℕ → Act-F Act Stmt → Option ℕ → Left → Type 0
 Row d n r (Assign q e) None left = left ≡ leaves n (slice_set r q (value r d e))
 Row d n r (Store x e) None left = left ≡ leaves (stored n x (value r d e)) r

@@ -5,8 +5,9 @@ ghost use Rattle.pg_machine.specs.Memory.{reaches, value_at, last_value};
 ghost use Rattle.pg_machine.specs.State.{coh_of, maxcoh};
 ghost use Rattle.pg_machine.specs.Moves.{can_read, loaded, stored, swapped, missed, fenced};
 ghost use Rattle.pg_machine.specs.Fault.{ChoiceFault, IsFull};
-ghost use Rattle.pg_machine.specs.Held.{seen_in, IsRefusal};
-ghost use Rattle.pg_machine.specs.declared.fault.TheConstants.{MAX_MESSAGES};
+ghost use Rattle.pg_machine.specs.Refusal.{IsRefusal};
+ghost use Rattle.pg_machine.specs.StepParts.{seen_in};
+ghost use Rattle.pg_machine.specs.Limits.{most_messages};
 
 use crate::fault::StepFault;
 use crate::memory::Memory;
@@ -96,7 +97,7 @@ pub fn store(
     requires { location < length views.old.coh }
     ensures ok { OnOk result (seen_in memory.new views.new ≡ stored (seen_in memory.old views.old) location value) }
     ensures err { IfErr result (λ f. IsRefusal (λ g. IsFull memory.old.memory × (g ≡ StepFault.MessagesFull)) memory.old.spare f) }
-    ensures within { OnOk result (length memory.new.memory.messages ≤ MAX_MESSAGES) }
+    ensures within { OnOk result (length memory.new.memory.messages ≤ most_messages) }
     ensures unchanged { OnErr result (seen_in memory.new views.new ≡ seen_in memory.old views.old) }
     ensures spare { memory.old.spare + length memory.old.memory.messages ≤ memory.new.spare + length memory.new.memory.messages }
 {
@@ -118,7 +119,7 @@ pub fn swap(
     requires location { location < length memory.old.memory.initial }
     ensures ok { OnOk result ((last_value memory.old.memory location ≡ expected) × (seen_in memory.new views.new ≡ swapped (seen_in memory.old views.old) location desired)) }
     ensures err { IfErr result (λ f. IsRefusal (λ g. ((last_value memory.old.memory location ≢ expected) × (g ≡ StepFault.CasNotLast (last_value memory.old.memory location))) ⊎ ((last_value memory.old.memory location ≡ expected) × IsFull memory.old.memory × (g ≡ StepFault.MessagesFull))) memory.old.spare f) }
-    ensures within { OnOk result (length memory.new.memory.messages ≤ MAX_MESSAGES) }
+    ensures within { OnOk result (length memory.new.memory.messages ≤ most_messages) }
     ensures unchanged { OnErr result (seen_in memory.new views.new ≡ seen_in memory.old views.old) }
     ensures spare { memory.old.spare + length memory.old.memory.messages ≤ memory.new.spare + length memory.new.memory.messages }
 {

@@ -2,7 +2,7 @@
 
 use thiserror::Error;
 
-/// How many messages a state may have.
+/// How many messages a state may have: `most_messages` of the contracts, which those of `Memory` hold it to.
 pub const MAX_MESSAGES: u32 = 65_535;
 
 /// Why a state has no step by an event. The faults are tested in the order in which they stand here, and the first is

@@ -2,7 +2,7 @@
 //!
 //! What this crate promises the layers above: the definitions of a state, of a well-formed one, of a step and of a fault,
 //! in `specs/`, after Px86view. `State` is such a state: `fresh` gives the first one of a program, and `step` takes the step
-//! that an event leads to, or tells exactly the fault that it has and leaves the state as it was. With spare messages, which
+//! that an event leads to, or gives exactly the fault that it has and leaves the state as it was. With spare messages, which
 //! `reserve` provides, it does not run out of memory. The laws in `laws`: an event leads a state to one next state at most and
 //! has one fault at most, the fresh state is well formed, a step keeps a state so, and a cas is a store and a fence, or a load
 //! between fences.

@@ -4,8 +4,8 @@ ghost use Rattle.std.specs.Prelude.{◌≡◌, ℕ, ◌+◌, ◌-◌, ◌<◌, �
 ghost use Rattle.pg_program.specs.NameTable.{initial};
 ghost use Rattle.pg_machine.specs.Memory.{is_at, value_at, last, last_value, is_clear, message_appended};
 ghost use Rattle.pg_machine.specs.Fault.{IsLeastHiding, IsFull};
-ghost use Rattle.pg_machine.specs.Held.{IsRefusal};
-ghost use Rattle.pg_machine.specs.declared.fault.TheConstants.{MAX_MESSAGES};
+ghost use Rattle.pg_machine.specs.Refusal.{IsRefusal};
+ghost use Rattle.pg_machine.specs.Limits.{most_messages};
 
 use crate::fault::{MAX_MESSAGES, StepFault};
 use crate::messages;
@@ -23,13 +23,13 @@ pub struct Memory {
 impl Model for Memory {
     ghost use Rattle.std.specs.Prelude.{◌-◌, ◌≤◌, length, vec_len, vec_capacity};
     ghost use Rattle.pg_machine.specs.Held.{HeldMemory};
-    ghost use Rattle.pg_machine.specs.declared.fault.TheConstants.{MAX_MESSAGES};
+    ghost use Rattle.pg_machine.specs.Limits.{most_messages};
 
     ghost Value = { HeldMemory };
 
     ghost view = { λ m. record { memory = record { initial = m.initial.items; messages = m.messages.items }; spare = vec_capacity m.messages - vec_len m.messages } };
 
-    ghost invariant = { λ m. length m.messages.items ≤ MAX_MESSAGES };
+    ghost invariant = { λ m. length m.messages.items ≤ most_messages };
 }
 
 impl Memory {
@@ -57,12 +57,12 @@ impl Memory {
     /// The number of messages.
     pub fn len(&self) -> u32
         ensures count { result ≡ length self.now.memory.messages }
-        ensures few { result ≤ MAX_MESSAGES }
+        ensures few { result ≤ most_messages }
     {
         self.messages.len() as u32
     }
 
-    /// The message at a position, with its location and value.
+    /// The message at a position, counted from 1, with its location and value.
     pub fn message(&self, position: u32) -> (u8, u8)
         requires { (1 ≤ position) × (position ≤ length self.now.memory.messages) }
         ensures { result ≡ slice_index_or self.now.memory.messages (position - 1) (0, 0) }
@@ -85,7 +85,7 @@ impl Memory {
         messages::is_at(&self.messages, location, position)
     }
 
-    /// The value at a position of the location.
+    /// The value at a position of the location: at 0 the initial one, and else that of the message.
     pub fn value_at(&self, location: u8, position: u32) -> u8
         requires location { location < length self.now.memory.initial }
         requires position { is_at self.now.memory.messages location position ≡ true }
@@ -120,7 +120,7 @@ impl Memory {
 
     /// Appends a message. A refusal leaves the memory as it was.
     pub fn append(&mut self, location: u8, value: u8) -> Result<u32, StepFault>
-        ensures ok { IfOk result (λ p. (p ≡ length self.old.memory.messages + 1) × (p ≤ MAX_MESSAGES) × (self.new.memory ≡ message_appended self.old.memory (location, value))) }
+        ensures ok { IfOk result (λ p. (p ≡ length self.old.memory.messages + 1) × (p ≤ most_messages) × (self.new.memory ≡ message_appended self.old.memory (location, value))) }
         ensures err { IfErr result (λ f. IsRefusal (λ g. IsFull self.old.memory × (g ≡ StepFault.MessagesFull)) self.old.spare f) }
         ensures unchanged { OnErr result (self.new.memory ≡ self.old.memory) }
         ensures spare { self.old.spare + length self.old.memory.messages ≤ self.new.spare + length self.new.memory.messages }

@@ -3,7 +3,7 @@
 ghost use Rattle.std.specs.Prelude.{◌≡◌, ℕ, ◌<◌, ◌≤◌, true, length, MatchOption};
 ghost use Rattle.pg_machine.specs.Memory.{is_at, value_at, last, is_clear};
 ghost use Rattle.pg_machine.specs.Fault.{IsLeastHiding};
-ghost use Rattle.pg_machine.specs.declared.fault.TheConstants.{MAX_MESSAGES};
+ghost use Rattle.pg_machine.specs.Limits.{most_messages};
 
 /// Whether a position is one of the location.
 pub fn is_at(messages: &[(u8, u8)], location: u8, position: u32) -> bool
@@ -30,7 +30,7 @@ pub fn value_at(initial: &[u8], messages: &[(u8, u8)], location: u8, position: u
 
 /// The greatest position of the location.
 pub fn last(messages: &[(u8, u8)], location: u8) -> u32
-    requires { length messages.now ≤ MAX_MESSAGES }
+    requires { length messages.now ≤ most_messages }
     ensures { result ≡ last messages.now location }
 {
     let mut last: u32 = 0;
@@ -45,7 +45,7 @@ pub fn last(messages: &[(u8, u8)], location: u8) -> u32
 /// The least position of the location that is above `position` and at most `bound`.
 pub fn hiding(messages: &[(u8, u8)], location: u8, position: u32, bound: u32) -> Option<u32>
     requires position { position ≤ length messages.now }
-    requires few { length messages.now ≤ MAX_MESSAGES }
+    requires few { length messages.now ≤ most_messages }
     ensures { MatchOption result (is_clear messages.now location position bound ≡ true) (λ q. IsLeastHiding messages.now location position bound q) }
 {
     let end = bound.min(messages.len() as u32);

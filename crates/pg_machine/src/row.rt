@@ -7,8 +7,10 @@ ghost use Rattle.pg_program.specs.Graph.{target_of};
 ghost use Rattle.pg_program.specs.Expr.{reads};
 ghost use Rattle.pg_machine.specs.Step.{Row, leaves, act_of, branch_taken, bracket_done};
 ghost use Rattle.pg_machine.specs.Fault.{RowFault};
-ghost use Rattle.pg_machine.specs.declared.fault.TheConstants.{MAX_MESSAGES};
-ghost use Rattle.pg_machine.specs.Held.{HeldMemory, seen_in, IsRefusal, AreSized, AreBelow, needs_memory, Does};
+ghost use Rattle.pg_machine.specs.Limits.{most_messages};
+ghost use Rattle.pg_machine.specs.Held.{HeldMemory};
+ghost use Rattle.pg_machine.specs.Refusal.{IsRefusal};
+ghost use Rattle.pg_machine.specs.StepParts.{seen_in, AreSized, AreBelow, needs_memory, Does};
 
 use crate::access::{load, miss, store, swap};
 use crate::fault::StepFault;
@@ -31,10 +33,10 @@ pub fn run(
     requires locations { All (λ x. x < length memory.old.memory.initial) (locations_of stmt.now) }
     requires sizes { AreSized memory.old views.old }
     requires stored { AreBelow domain memory.old }
-    requires few { length memory.old.memory.messages ≤ MAX_MESSAGES }
+    requires few { length memory.old.memory.messages ≤ most_messages }
     ensures ok { OnOk result (Does domain (seen_in memory.old views.old) scalars.old stmt.now choice (leaves (seen_in memory.new views.new) scalars.new)) }
     ensures err { IfErr result (λ f. IsRefusal (RowFault domain (seen_in memory.old views.old) scalars.old (act_of stmt.now) choice) memory.old.spare f) }
-    ensures within { length memory.new.memory.messages ≤ MAX_MESSAGES }
+    ensures within { length memory.new.memory.messages ≤ most_messages }
     ensures unchanged { OnErr result ((seen_in memory.new views.new ≡ seen_in memory.old views.old) × (scalars.new ≡ scalars.old)) }
     ensures spare { memory.old.spare + length memory.old.memory.messages ≤ memory.new.spare + length memory.new.memory.messages }
 {
@@ -58,11 +60,11 @@ pub fn act(
     requires locations { All (λ x. x < length memory.old.memory.initial) (locations_in (out-Act act.now)) }
     requires sizes { AreSized memory.old views.old }
     requires stored { AreBelow domain memory.old }
-    requires few { length memory.old.memory.messages ≤ MAX_MESSAGES }
+    requires few { length memory.old.memory.messages ≤ most_messages }
     ensures ok { OnOk result (Row domain (seen_in memory.old views.old) scalars.old (out-Act act.now) choice (leaves (seen_in memory.new views.new) scalars.new)) }
     ensures err { IfErr result (λ f. IsRefusal (RowFault domain (seen_in memory.old views.old) scalars.old (out-Act act.now) choice) memory.old.spare f) }
     ensures values { All (λ v. v < domain) scalars.new }
-    ensures within { length memory.new.memory.messages ≤ MAX_MESSAGES }
+    ensures within { length memory.new.memory.messages ≤ most_messages }
     ensures unchanged { OnErr result ((seen_in memory.new views.new ≡ seen_in memory.old views.old) × (scalars.new ≡ scalars.old)) }
     ensures spare { memory.old.spare + length memory.old.memory.messages ≤ memory.new.spare + length memory.new.memory.messages }
 {
@@ -126,11 +128,11 @@ fn act_alone(
     requires scalars { All (λ r. r < length scalars.old) (outside_in (out-Act act.now)) }
     requires locations { All (λ x. x < length memory.old.memory.initial) (locations_in (out-Act act.now)) }
     requires sizes { AreSized memory.old views.old }
-    requires few { length memory.old.memory.messages ≤ MAX_MESSAGES }
+    requires few { length memory.old.memory.messages ≤ most_messages }
     ensures ok { OnOk result (Row domain (seen_in memory.old views.old) scalars.old (out-Act act.now) None (leaves (seen_in memory.new views.new) scalars.new)) }
     ensures err { IfErr result (λ f. IsRefusal (RowFault domain (seen_in memory.old views.old) scalars.old (out-Act act.now) None) memory.old.spare f) }
     ensures values { All (λ v. v < domain) scalars.new }
-    ensures within { length memory.new.memory.messages ≤ MAX_MESSAGES }
+    ensures within { length memory.new.memory.messages ≤ most_messages }
     ensures unchanged { OnErr result ((seen_in memory.new views.new ≡ seen_in memory.old views.old) × (scalars.new ≡ scalars.old)) }
     ensures spare { memory.old.spare + length memory.old.memory.messages ≤ memory.new.spare + length memory.new.memory.messages }
 {

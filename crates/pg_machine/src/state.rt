@@ -2,11 +2,11 @@
 
 ghost use Rattle.std.specs.Prelude.{◌≡◌, ◌≢◌, ℕ, ◌+◌, ◌-◌, ◌<◌, ◌≤◌, length, replicate, slice_index, slice_index_or, Some, IfOk, IfErr, OnOk, OnErr};
 ghost use Rattle.pg_program.specs.Program.{IsProgram, stmt_at};
-ghost use Rattle.pg_machine.specs.declared.fault.TheConstants.{MAX_MESSAGES};
+ghost use Rattle.pg_machine.specs.Limits.{most_messages};
 ghost use Rattle.pg_machine.specs.State.{fresh, fresh_views, point_of, coh_of, vpa_of, vpc_of, maxcoh, IsWellFormed};
 ghost use Rattle.pg_machine.specs.Step.{views_of, IsStep};
 ghost use Rattle.pg_machine.specs.Fault.{IsFault, ActFault};
-ghost use Rattle.pg_machine.specs.Held.{IsRefusal, IsTaken};
+ghost use Rattle.pg_machine.specs.Refusal.{IsRefusal, IsTaken};
 
 use crate::event::Event;
 use crate::fault::StepFault;
@@ -17,7 +17,8 @@ use pg_program::{PointId, Program, Stmt};
 use std::alloc::{AllocError, Global};
 use std::marker::Model;
 
-/// A state of a program.
+/// A state of a program. Threads and points are numbered from 1, locations and scalars from 0. A position is 0 for the initial
+/// values, and else counts the messages from 1; each view is a position.
 #[derive(Drop)]
 pub struct State {
     memory: Memory,
@@ -29,7 +30,7 @@ pub struct State {
 impl Model for State {
     ghost use Rattle.std.specs.Prelude.{◌≤◌, length};
     ghost use Rattle.pg_machine.specs.Held.{Held};
-    ghost use Rattle.pg_machine.specs.declared.fault.TheConstants.{MAX_MESSAGES};
+    ghost use Rattle.pg_machine.specs.Limits.{most_messages};
 
     ghost Value = { Held };
 
@@ -38,7 +39,7 @@ impl Model for State {
       spare = s.memory.spare;
     } };
 
-    ghost invariant = { λ s. length s.memory.memory.messages ≤ MAX_MESSAGES };
+    ghost invariant = { λ s. length s.memory.memory.messages ≤ most_messages };
 }
 
 impl State {
@@ -75,7 +76,7 @@ impl State {
         self.points[usize::from(thread) - 1]
     }
 
-    /// The values of the scalars, in the order of declaration.
+    /// The values of the scalars, numbered from 0 in the order of declaration.
     pub fn scalars(&self) -> &[u8]
         ensures { result.now ≡ self.now.state.scalars }
     {
@@ -93,12 +94,12 @@ impl State {
     /// The number of messages.
     pub fn messages(&self) -> u32
         ensures count { result ≡ length self.now.state.memory.messages }
-        ensures few { result ≤ MAX_MESSAGES }
+        ensures few { result ≤ most_messages }
     {
         self.memory.len()
     }
 
-    /// The message at a position, with its location and value.
+    /// The message at a position, counted from 1, with its location and value.
     pub fn message(&self, position: u32) -> (u8, u8)
         requires { (1 ≤ position) × (position ≤ length self.now.state.memory.messages) }
         ensures { result ≡ slice_index_or self.now.state.memory.messages (position - 1) (0, 0) }
@@ -106,7 +107,7 @@ impl State {
         self.memory.message(position)
     }
 
-    /// The initial value of a location.
+    /// The initial value of a location, numbered from 0.
     pub fn init(&self, location: u8) -> u8
         requires { location < length self.now.state.memory.initial }
         ensures { result ≡ slice_index self.now.state.memory.initial location }
@@ -114,7 +115,7 @@ impl State {
         self.memory.init(location)
     }
 
-    /// A thread's coherence view of a location.
+    /// The coherence view of a thread, numbered from 1, of a location, numbered from 0: a position, 0 or counted from 1.
     pub fn coh(&self, thread: u8, location: u8) -> u32
         requires thread { (1 ≤ thread) × (thread ≤ length self.now.state.views) }
         requires location { location < length (views_of self.now.state thread).coh }
@@ -123,7 +124,7 @@ impl State {
         self.seen(thread).coh(location)
     }
 
-    /// A thread's greatest coherence view.
+    /// The greatest coherence view of a thread, numbered from 1.
     pub fn maxcoh(&self, thread: u8) -> u32
         requires { (1 ≤ thread) × (thread ≤ length self.now.state.views) }
         ensures { result ≡ maxcoh (views_of self.now.state thread) }
@@ -131,7 +132,7 @@ impl State {
         self.seen(thread).maxcoh()
     }
 
-    /// A thread's read view.
+    /// The read view of a thread, numbered from 1: a position.
     pub fn vrn(&self, thread: u8) -> u32
         requires { (1 ≤ thread) × (thread ≤ length self.now.state.views) }
         ensures { result ≡ (views_of self.now.state thread).vrn }
@@ -139,7 +140,7 @@ impl State {
         self.seen(thread).vrn()
     }
 
-    /// A thread's ready view.
+    /// The ready view of a thread, numbered from 1: a position.
     pub fn vpr(&self, thread: u8) -> u32
         requires { (1 ≤ thread) × (thread ≤ length self.now.state.views) }
         ensures { result ≡ (views_of self.now.state thread).vpr }
@@ -147,7 +148,7 @@ impl State {
         self.seen(thread).vpr()
     }
 
-    /// A thread's asynchronous view of a location.
+    /// The asynchronous view of a thread, numbered from 1, of a location, numbered from 0: a position.
     pub fn vpa(&self, thread: u8, location: u8) -> u32
         requires thread { (1 ≤ thread) × (thread ≤ length self.now.state.views) }
         requires location { location < length (views_of self.now.state thread).vpa }
@@ -156,7 +157,7 @@ impl State {
         self.seen(thread).vpa(location)
     }
 
-    /// A thread's committed view of a location.
+    /// The committed view of a thread, numbered from 1, of a location, numbered from 0: a position.
     pub fn vpc(&self, thread: u8, location: u8) -> u32
         requires thread { (1 ≤ thread) × (thread ≤ length self.now.state.views) }
         requires location { location < length (views_of self.now.state thread).vpc }
@@ -165,13 +166,14 @@ impl State {
         self.seen(thread).vpc(location)
     }
 
-    /// Takes the step that an event leads to. A refusal leaves the state as it was.
+    /// Takes the step that an event leads to. A refusal leaves the state as it was. Either way the state is well formed again, so a
+    /// loop of steps has `IsWellFormed` as its invariant.
     pub fn step(&mut self, p: &Program, event: Event) -> Result<(), StepFault>
         requires { IsWellFormed p.now self.old.state }
         ensures ok { OnOk result (IsStep p.now self.old.state event self.new.state) }
         ensures err { IfErr result (λ f. IsRefusal (IsFault p.now self.old.state event) self.old.spare f) }
         ensures kept { IsWellFormed p.now self.new.state }
-        ensures within { OnOk result (length self.new.state.memory.messages ≤ MAX_MESSAGES) }
+        ensures within { OnOk result (length self.new.state.memory.messages ≤ most_messages) }
         ensures exact { (f : StepFault) → IsFault p.now self.old.state event f → result ≡ Err f }
         ensures complete { IsTaken p.now self.old.state event result }
         ensures unchanged { OnErr result (self.new.state ≡ self.old.state) }
@@ -205,7 +207,7 @@ impl State {
         requires stmt { stmt_at p.now at.thread at.point ≡ Some stmt.now }
         ensures ok { OnOk result (IsStep p.now self.old.state (record { thread = at.thread; choice = choice }) self.new.state) }
         ensures err { IfErr result (λ f. IsRefusal (ActFault p.now self.old.state (record { thread = at.thread; choice = choice })) self.old.spare f) }
-        ensures within { length self.new.state.memory.messages ≤ MAX_MESSAGES }
+        ensures within { length self.new.state.memory.messages ≤ most_messages }
         ensures built { IsProgram p.now }
         ensures unchanged { OnErr result (self.new.state ≡ self.old.state) }
         ensures spare { self.old.spare + length self.old.state.memory.messages ≤ self.new.spare + length self.new.state.memory.messages }

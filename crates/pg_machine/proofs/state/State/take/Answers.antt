@@ -6,7 +6,8 @@ use Rattle.pg_program.specs.Fault.{outside, scalars_of, locations_of}
 use Rattle.pg_program.specs.Graph.{target_of}
 use Rattle.pg_machine.specs.State.{State}
 use Rattle.pg_machine.specs.Step.{leaves, act_of, branch_taken, IsStep}
-use Rattle.pg_machine.specs.Held.{Held, seen_in}
+use Rattle.pg_machine.specs.Held.{Held}
+use Rattle.pg_machine.specs.StepParts.{seen_in}
 use Rattle.pg_machine.proofs.Formed.{leads_on, act_scalars, stmt_scalars, stmt_locations}
 use Rattle.pg_machine.proofs.Taken.{taken, refusal, parts_of, same_state, refill}
 use Rattle.std.proofs.lemmas.Result.{err_from_is_err_and}
