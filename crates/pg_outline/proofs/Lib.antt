@@ -1,6 +1,6 @@
 mod Rows
 mod CrashSize
-mod Parts
+pub mod Parts
 pub mod EraseNames
 pub mod EraseStmts
 pub mod EraseClauses

@@ -49,11 +49,11 @@ expansion_told d n o f c p q r h = parted d n o c ∙ rw (p, q, r) h
 
 -- ---- a crash formula whose values are in the domain
 
-both_none : (f g : Fault) → first_of f g ≡ None → (f ≡ None) × (g ≡ None)
+pub both_none : (f g : Fault) → first_of f g ≡ None → (f ≡ None) × (g ≡ None)
 both_none None g h = (refl, h)
 both_none (Some e) g h = cc
 
-value_inside : (d v : ℕ) → value_fault d v ≡ None → v < d
+pub value_inside : (d v : ℕ) → value_fault d v ≡ None → v < d
 value_inside d v h = by (nat_lt v d) refl h
   where
     by : (b : Bool) → nat_lt v d ≡ b → ◌≡◌ {A = Fault} (if b then None else Some (ValueOutOfDomain v)) None → v < d

@@ -1,4 +1,7 @@
 -- Codes of formulas, by which values that hold formulas are told apart: a formula is coded as the formula of the code's own type.
+--
+-- `plain_formula` is a proof, and the one in this folder: the member `coded` of `impl Model for Outline` is a value that holds it,
+-- and what a contract speaks of may name `specs/` alone. No statement rests on which code it is.
 use Rattle.std.proofs.Common.{◌≡◌, sym, ap, ap₂, ◌∙◌}
 use Rattle.std.specs.Coded.{Coded, code_by}
 use Rattle.pg_assertion.specs.declared.atom.ViewAtom.{ViewAtom}

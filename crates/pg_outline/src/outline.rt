@@ -24,7 +24,7 @@ pub const MAX_NODES: u64 = 512;
 pub const MAX_CRASH_LOCATIONS: usize = 3;
 
 /// A well-formed outline.
-#[derive(Debug, Drop)]
+#[derive(Drop)]
 pub struct Outline {
     program: Program,
     pre: Formula<ViewAtom>,
