@@ -7,3 +7,4 @@ pub mod ExprLemmas
 pub mod GraphLemmas
 pub mod BlockLemmas
 pub mod NameLemmas
+pub mod FlowLaws

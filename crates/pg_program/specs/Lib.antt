@@ -10,3 +10,4 @@ pub mod Program
 pub mod Straight
 pub mod Outcome
 pub mod Laws
+pub mod Flow

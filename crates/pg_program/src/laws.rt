@@ -2,6 +2,7 @@
 //! law.
 
 ghost use Rattle.pg_program.specs.Block.{BlocksNest};
+ghost use Rattle.pg_program.specs.Flow.{StepsFlow};
 ghost use Rattle.pg_program.specs.Laws.{EachStatementHasSteps, StepsAreOfStatements, StepsLeadWithin};
 
 /// A block is its first statement, the two blocks within that, and the block of the other statements.
@@ -22,4 +23,10 @@ pub fn the_steps_are_those_of_the_statement()
 /// A step from a point leads to a point of the same thread.
 pub fn steps_lead_within_their_thread()
     ensures { StepsLeadWithin }
+{}
+
+/// A step leads as the rule of the flow says: to the next point of its block, at a block's end to the point after the
+/// `if` or back to the point of the `while`, and past an empty block to where it would end.
+pub fn steps_lead_as_the_nesting_says()
+    ensures { StepsFlow }
 {}

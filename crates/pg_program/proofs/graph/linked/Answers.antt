@@ -1,5 +1,4 @@
 use Rattle.std.proofs.Common.{◌<◌, ap, arith, List, Vec, Global}
-use Rattle.std.proofs.lemmas.Result.{IfOk-from_err}
 use Rattle.pg_program.specs.declared.syntax.Stmt.{Stmt}
 use Rattle.pg_program.specs.Limits.{most_points}
 use Rattle.pg_program.specs.Block.{block}
