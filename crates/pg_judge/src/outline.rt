@@ -12,7 +12,7 @@ pub struct PathLit {
 
 /// An outline of one thread of stores of numbers. A conjunction of literals is their list; the empty one is
 /// `true`. There is one note for each point of the thread, and the crash formula is `true`.
-#[derive(Debug, Drop)]
+#[derive(Drop)]
 pub struct PathOutline<'a> {
     pub program: &'a Program,
     pub pre: Vec<PathLit>,

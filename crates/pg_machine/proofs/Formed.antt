@@ -11,7 +11,8 @@ use Rattle.pg_program.specs.declared.point.Branch.{Branch}
 use Rattle.pg_program.specs.declared.point.Branch.TheVariants.{Plain, Yes, No}
 use Rattle.pg_program.specs.declared.point.Step.{Step}
 use Rattle.pg_program.specs.NameTable.{NameTable, initial}
-use Rattle.pg_program.specs.Fault.{domain_size, outside, bracket_scalars, scalars_of, locations_of}
+use Rattle.pg_program.specs.Fault.{domain_size}
+use Rattle.pg_program.specs.Words.{outside, bracket_scalars, scalars_of, locations_of}
 use Rattle.pg_program.specs.Graph.{target_of, is_branch, is_test_in, branches}
 use Rattle.pg_program.specs.Expr.{test_holds}
 use Rattle.pg_program.specs.Program.{ProgramTable, IsProgram, stmt_at, steps_at}

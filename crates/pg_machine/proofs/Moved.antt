@@ -7,7 +7,7 @@ use Rattle.std.proofs.lemmas.List.Elements.{All-head, All-get_or}
 use Rattle.pg_program.specs.declared.syntax.Stmt.{Stmt}
 use Rattle.pg_program.specs.declared.syntax.Act.{Act}
 use Rattle.pg_program.specs.declared.syntax.Act.TheOpen.{Act-F, Assign, Store, Load, Cas, Mfence, Sfence, Flush, Flushopt, If, While}
-use Rattle.pg_program.specs.Fault.{locations_in}
+use Rattle.pg_program.specs.Words.{locations_in}
 use Rattle.pg_program.specs.Program.{ProgramTable, IsProgram}
 use Rattle.pg_machine.specs.declared.event.Event.{Event}
 use Rattle.pg_machine.specs.Memory.{Memory}

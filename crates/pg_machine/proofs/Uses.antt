@@ -9,7 +9,7 @@ use Rattle.pg_program.specs.declared.syntax.Stmt.{Stmt}
 use Rattle.pg_program.specs.declared.syntax.Act.{Act, out-Act, Assign, Store, Cas, If, While}
 use Rattle.pg_program.specs.declared.syntax.Act.TheOpen as opened
 use Rattle.pg_program.specs.declared.point.Branch.TheVariants.{Yes, No}
-use Rattle.pg_program.specs.Fault.{outside_in, locations_in, bracket_scalars}
+use Rattle.pg_program.specs.Words.{outside_in, locations_in, bracket_scalars}
 use Rattle.pg_program.specs.Expr.{reads, value, test_holds}
 use Rattle.pg_machine.specs.declared.fault.StepFault.{StepFault}
 use Rattle.pg_machine.specs.declared.fault.StepFault.TheVariants.{CasNotLast, MessagesFull}

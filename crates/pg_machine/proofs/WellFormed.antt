@@ -14,7 +14,7 @@ use Rattle.pg_program.specs.declared.syntax.Act.TheOpen.{Act-F, Assign, Store, L
 use Rattle.pg_program.specs.declared.point.Branch.{Branch}
 use Rattle.pg_program.specs.declared.point.Step.{Step}
 use Rattle.pg_program.specs.NameTable.{NameTable, initial}
-use Rattle.pg_program.specs.Fault.{locations_in}
+use Rattle.pg_program.specs.Words.{locations_in}
 use Rattle.pg_program.specs.Expr.{value, value_step}
 use Rattle.pg_program.specs.Graph.{target_of, is_branch}
 use Rattle.pg_program.specs.Laws.{LeadsWithin}

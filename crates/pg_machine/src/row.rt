@@ -2,7 +2,7 @@
 
 ghost use Rattle.std.specs.Prelude.{◌≡◌, ◌+◌, ◌<◌, ◌≤◌, length, if◌then◌else◌, false, All, IsSome, Some, None, IfErr, OnOk, OnErr};
 ghost use Rattle.pg_program.specs.declared.syntax.Act.{out-Act};
-ghost use Rattle.pg_program.specs.Fault.{outside_in, locations_in, scalars_of, locations_of};
+ghost use Rattle.pg_program.specs.Words.{outside_in, locations_in, scalars_of, locations_of};
 ghost use Rattle.pg_program.specs.Graph.{target_of};
 ghost use Rattle.pg_program.specs.Expr.{reads};
 ghost use Rattle.pg_machine.specs.Step.{Row, leaves, act_of, branch_taken, bracket_done};

@@ -9,9 +9,10 @@ use Rattle.pg_program.specs.declared.syntax.Stmt.{Stmt, out-Stmt}
 use Rattle.pg_program.specs.declared.syntax.Act.{Act, out-Act}
 use Rattle.pg_program.specs.declared.syntax.Act.TheOpen.{Act-F}
 use Rattle.pg_program.specs.declared.point.PointId.{PointId}
-use Rattle.pg_program.specs.NameTable.{NameTable}
+use Rattle.pg_program.specs.NameTable.{NameTable, is_foreign, is_foreign_kind, is_auxiliary, scalar_name}
 use Rattle.pg_program.specs.Expr.{reads}
-use Rattle.pg_program.specs.Fault.{Fault, outside, outside_in, scalars_of, bracket_scalars, targets, numbers_in, numbers_of, bracket_numbers, groups, groups_in, locations_in, locations_of, is_foreign, is_foreign_kind, is_auxiliary, scalar_name, foreign_register, aux_in_program, aux_twice, value_out_of_domain, expression_names, repeated, is_in, different, is_wide, first_outside, own_registers, no_auxiliaries, distinct_targets, numbers_inside, few_names}
+use Rattle.pg_program.specs.Fault.{Fault, foreign_register, aux_in_program, aux_twice, value_out_of_domain, expression_names, first_outside, own_registers, no_auxiliaries, distinct_targets, numbers_inside, few_names}
+use Rattle.pg_program.specs.Words.{outside, outside_in, scalars_of, bracket_scalars, targets, numbers_in, numbers_of, bracket_numbers, groups, groups_in, locations_in, locations_of, repeated, is_in, different, is_wide}
 use Rattle.pg_program.specs.Program.{IsStmt}
 use Rattle.pg_program.proofs.ExprLemmas.{All-front}
 use Rattle.pg_outline.specs.Erasure.{erased_names, erased_stmt, new_place}

@@ -5,7 +5,7 @@ use Rattle.pg_program.specs.declared.syntax.Stmt.{Stmt, out-Stmt}
 use Rattle.pg_program.specs.declared.syntax.Act.{Act, out-Act}
 use Rattle.pg_program.specs.declared.syntax.Act.TheOpen.{Act-F, Assign, Store, Load, Cas, Mfence, Sfence, Flush, Flushopt, If, While}
 use Rattle.pg_program.specs.declared.point.Step.{Step}
-use Rattle.pg_program.specs.Block.{Block, node, block, first_of, second_of}
+use Rattle.pg_program.specs.Block.{Block, node, block, first_list as first_of, second_list as second_of}
 use Rattle.pg_program.specs.Graph.{size, statements, is_test, is_loop, is_test_in, is_loop_in, into, own_steps, exit_of, steps, thread_steps}
 use Rattle.pg_program.specs.Program.{thread_of}
 use Rattle.pg_program.proofs.BlockLemmas.{block-nests}

@@ -13,11 +13,11 @@ use Rattle.pg_program.specs.declared.syntax.Stmt.{Stmt, out-Stmt, roll-Stmt, rol
 use Rattle.pg_program.specs.declared.syntax.Act.{Act, out-Act, roll-Act, roll-out-Act}
 use Rattle.pg_program.specs.declared.syntax.Act.TheOpen.{Act-F, Assign, Store, Load, Cas, Mfence, Sfence, Flush, Flushopt, If, While}
 use Rattle.pg_program.specs.declared.syntax.Act.TheFolds.{map-Act, fold_out-Act, fold_out-Stmt}
-use Rattle.pg_program.specs.NameTable.{NameTable}
+use Rattle.pg_program.specs.NameTable.{NameTable, is_auxiliary_kind}
 use Rattle.pg_program.specs.Expr.{reads, reads_step}
-use Rattle.pg_program.specs.Block.{block, first_in, second_in, first_of, second_of}
+use Rattle.pg_program.specs.Block.{block, first_in, second_in, first_list as first_of, second_list as second_of}
 use Rattle.pg_program.specs.Graph.{size, statements}
-use Rattle.pg_program.specs.Fault.{outside, outside_in, bracket_scalars, is_auxiliary_kind}
+use Rattle.pg_program.specs.Words.{outside, outside_in, bracket_scalars}
 use Rattle.pg_program.specs.Program.{ProgramTable, IsStmt, IsThread}
 use Rattle.pg_program.proofs.BlockLemmas.{block-nests}
 use Rattle.pg_program.proofs.ExprLemmas.{All-front, All-behind}

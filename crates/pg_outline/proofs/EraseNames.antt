@@ -7,8 +7,8 @@ use Rattle.pg_program.specs.declared.name_table.NameKind.TheVariants as kind
 use Rattle.pg_program.specs.declared.name_table.NameRef.TheVariants as ref
 use Rattle.pg_program.specs.declared.name_table.ScalarKind.{ScalarKind}
 use Rattle.pg_program.specs.declared.name_table.ScalarKind.TheVariants as scalar
-use Rattle.pg_program.specs.NameTable.{NameTable, IsNameTable, place_in, find, found, kind_of, with_name}
-use Rattle.pg_program.specs.Fault.{is_auxiliary_kind, unknown_owner}
+use Rattle.pg_program.specs.NameTable.{NameTable, IsNameTable, place_in, find, found, kind_of, with_name, is_auxiliary_kind}
+use Rattle.pg_program.specs.Fault.{unknown_owner}
 use Rattle.pg_outline.specs.Erasure.{registers}
 
 abbrev Scalars : Type 0

@@ -9,9 +9,9 @@ use Rattle.pg_program.specs.declared.syntax.Act.{Act, out-Act, out-roll-Act}
 use Rattle.pg_program.specs.declared.syntax.Act.TheOpen.{Act-F, Stmt-F, Assign, Store, Load, Cas, Mfence, Sfence, Flush, Flushopt, If, While}
 use Rattle.pg_program.specs.declared.syntax.Act.TheFolds.{map-Act, fold_out-Act, fold_out-Stmt}
 use Rattle.pg_program.specs.Expr.{reads, reads_step, numbers, numbers_step}
-use Rattle.pg_program.specs.Block.{Block, block, first_in, second_in, first_of, second_of}
+use Rattle.pg_program.specs.Block.{Block, block, first_in, second_in, first_list as first_of, second_list as second_of}
 use Rattle.pg_program.specs.Graph.{size, statements}
-use Rattle.pg_program.specs.Fault.{outside_in, numbers_in, groups_in, locations_in}
+use Rattle.pg_program.specs.Words.{outside_in, numbers_in, groups_in, locations_in}
 use Rattle.pg_program.proofs.BlockLemmas.{block-nests}
 use Rattle.pg_outline.specs.Erasure.{moved, moved_step, moved_test, act_step, stmt_step, erased_act, erased_stmt}
 

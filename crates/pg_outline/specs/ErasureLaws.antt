@@ -3,7 +3,7 @@ use Rattle.std.specs.Prelude.{◌≡◌, ℕ, false, [], All, option_map}
 use Rattle.pg_program.specs.declared.syntax.Stmt.{out-Stmt}
 use Rattle.pg_program.specs.Block.{block}
 use Rattle.pg_program.specs.Graph.{statements}
-use Rattle.pg_program.specs.Fault.{is_auxiliary}
+use Rattle.pg_program.specs.NameTable.{is_auxiliary}
 use Rattle.pg_program.specs.Program.{ProgramTable, IsProgram, stmt_at, steps_at}
 use Rattle.pg_outline.specs.Erasure.{erased, erased_stmt, new_place}
 

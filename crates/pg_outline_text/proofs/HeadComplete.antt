@@ -7,7 +7,7 @@ use Rattle.pg_lex.specs.declared.token.Sign.TheVariants as s
 use Rattle.pg_lex.specs.declared.token.TokenKind.TheVariants as kind
 use Rattle.pg_lex.specs.declared.fault.TextKind.TheVariants.{Unexpected}
 use Rattle.pg_lex.specs.Lex.{Cursor, Lexeme, token}
-use Rattle.pg_program.specs.declared.name_table.TheConstants.{MAX_LOCATIONS, MAX_SCALARS}
+use Rattle.pg_program.specs.Limits.{most_locations as MAX_LOCATIONS, most_scalars as MAX_SCALARS}
 use Rattle.pg_program.specs.declared.name_table.NameKind.{NameKind}
 use Rattle.pg_program.specs.declared.name_table.NameKind.TheVariants as name
 use Rattle.pg_program.specs.declared.name_table.ScalarKind.TheVariants as scalar

@@ -39,7 +39,7 @@ outline_told (CrashNodes n) = Some (of_outline (CrashNodes n))
 abbrev pub told : FileFault → Option Fault
 told (Text f) = text_told f
 told (Version n) = Some (other_version n)
-told (Program f) = option_map of_program (program.told f)
+told (Program f) = option_map of_program (program.plain_fault f)
 told (Outline f) = outline_told f
 told NoMemory = None
 

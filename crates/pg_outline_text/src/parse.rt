@@ -75,7 +75,7 @@ fn of_text(fault: TextFault) -> FileFault
 
 /// A fault of the program as one of the file.
 fn of_program(fault: ProgramFault) -> FileFault
-    ensures told { told result ≡ option_map of_program (program.told fault) }
+    ensures told { told result ≡ option_map of_program (program.plain_fault fault) }
     ensures memory { IsToldOrMemory result }
 {
     match fault {

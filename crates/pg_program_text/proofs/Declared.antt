@@ -12,10 +12,10 @@ use Rattle.pg_program.specs.declared.syntax.Stmt.{Stmt, roll-Stmt, out-roll-Stmt
 use Rattle.pg_program.specs.declared.syntax.Act.{Act, out-Act}
 use Rattle.pg_program.specs.declared.syntax.Act.TheVariants as act
 use Rattle.pg_program.specs.declared.syntax.Act.TheOpen.{Act-F, Stmt-F, Assign, Store, Load, Cas, Mfence, Sfence, Flush, Flushopt, If, While}
-use Rattle.pg_program.specs.NameTable.{NameTable}
+use Rattle.pg_program.specs.NameTable.{NameTable, is_auxiliary}
 use Rattle.pg_program.specs.Expr.{reads, reads_step}
 use Rattle.pg_program.specs.Graph.{is_test_in}
-use Rattle.pg_program.specs.Fault.{outside_in, locations_in, bracket_scalars, is_auxiliary}
+use Rattle.pg_program.specs.Words.{outside_in, locations_in, bracket_scalars}
 use Rattle.pg_program.specs.Program.{IsStmt}
 use Rattle.pg_assertion_text.specs.Words.{location, scalar}
 use Rattle.pg_assertion_text.proofs.Names.{item_fits}

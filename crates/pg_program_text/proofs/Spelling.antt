@@ -6,7 +6,7 @@ use Rattle.std.proofs.lemmas.List.{drop_more, drop-drop}
 use Rattle.std.proofs.lemmas.List.Elements.{All-tail}
 use Rattle.pg_program.specs.declared.syntax.Stmt.{Stmt}
 use Rattle.pg_program.specs.NameTable.{NameTable}
-use Rattle.pg_program.specs.Block.{Block, node, block, first_of, second_of}
+use Rattle.pg_program.specs.Block.{Block, node, block, first_list as first_of, second_list as second_of}
 use Rattle.pg_program.specs.Graph.{size}
 use Rattle.pg_program.proofs.BlockLemmas.{block-nests}
 use Rattle.pg_assertion.specs.declared.atom.ViewAtom.{ViewAtom}

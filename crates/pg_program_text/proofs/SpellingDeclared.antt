@@ -9,7 +9,7 @@ use Rattle.pg_program.specs.declared.syntax.AuxAssign.{AuxAssign}
 use Rattle.pg_program.specs.declared.syntax.Cond.{Cond}
 use Rattle.pg_program.specs.NameTable.{NameTable}
 use Rattle.pg_program.specs.Expr.{reads}
-use Rattle.pg_program.specs.Fault.{outside, outside_in, bracket_scalars, locations_in}
+use Rattle.pg_program.specs.Words.{outside, outside_in, bracket_scalars, locations_in}
 use Rattle.pg_program.specs.Block.{Block, done, node}
 use Rattle.pg_program.specs.Graph.{statements}
 use Rattle.pg_program.specs.Program.{IsStmt}

@@ -13,7 +13,7 @@ use Rattle.pg_program.specs.declared.syntax.Stmt.{Stmt, out-Stmt, roll-Stmt}
 use Rattle.pg_program.specs.declared.syntax.Act.{Act, out-Act, roll-Act, roll-out-Act}
 use Rattle.pg_program.specs.declared.syntax.Act.TheOpen.{Act-F, Assign, Store, Load, Cas, Mfence, Sfence, Flush, Flushopt, If, While}
 use Rattle.pg_program.specs.declared.syntax.Act.TheVariants as act
-use Rattle.pg_program.specs.Block.{Block, node, block, first_in, second_in, first_of, second_of}
+use Rattle.pg_program.specs.Block.{Block, node, block, first_in, second_in, first_list as first_of, second_list as second_of}
 use Rattle.pg_program.specs.Graph.{size, statements, is_test_in}
 use Rattle.pg_program.proofs.BlockLemmas.{block-nests}
 use Rattle.pg_program.proofs.ExprLemmas.{All-front, All-behind}

@@ -11,8 +11,7 @@ use Rattle.std.specs.Prelude.{◌≡◌, ℕ, suc, ◌≤◌, Bool, true, false,
 use Rattle.pg_lex.specs.declared.token.Sign.{Sign}
 use Rattle.pg_lex.specs.declared.token.Sign.TheVariants as s
 use Rattle.pg_lex.specs.Lex.{Cursor, Lexeme, token}
-use Rattle.pg_program.specs.NameTable.{NameTable}
-use Rattle.pg_program.specs.Fault.{is_auxiliary}
+use Rattle.pg_program.specs.NameTable.{NameTable, is_auxiliary}
 use Rattle.pg_program.specs.declared.syntax.Expr.{Expr}
 use Rattle.pg_program.specs.declared.syntax.Cond.{Cond}
 use Rattle.pg_program.specs.declared.syntax.Act.{Act}

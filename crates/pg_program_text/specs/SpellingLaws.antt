@@ -1,7 +1,7 @@
 -- The laws of spelling: the canonical text is in the grammar, and stands for what it was made of.
 use Rattle.std.specs.Prelude.{◌≡◌, ℕ, ◌+◌, ◌<◌, ◌≤◌, true, List, [], ◌++◌, length, map, All}
 use Rattle.pg_lex.specs.Lex.{Cursor, behind_gap}
-use Rattle.pg_program.specs.NameTable.{NameTable, IsNameTable}
+use Rattle.pg_program.specs.NameTable.{NameTable, IsNameTable, is_auxiliary}
 use Rattle.pg_program.specs.declared.syntax.Expr.{Expr}
 use Rattle.pg_program.specs.declared.syntax.Cond.{Cond}
 use Rattle.pg_program.specs.declared.syntax.AuxAssign.{AuxAssign}
@@ -10,7 +10,6 @@ use Rattle.pg_program.specs.declared.syntax.Act.{Act, out-Act}
 use Rattle.pg_program.specs.declared.syntax.Act.TheOpen.{Act-F, Assign, Store, Load, Cas, Mfence, Sfence, Flush, Flushopt, If, While}
 use Rattle.pg_program.specs.Block.{block}
 use Rattle.pg_program.specs.Graph.{size, statements, is_test}
-use Rattle.pg_program.specs.Fault.{is_auxiliary}
 use Rattle.pg_assertion.specs.declared.atom.ViewAtom.{ViewAtom}
 use Rattle.pg_assertion.specs.Formula.{Plain, with_atoms}
 use Rattle.pg_assertion_text.specs.Spelling.{AreNames, Ends}

@@ -6,8 +6,7 @@ use Rattle.pg_lex.specs.declared.fault.TextFault.TheVariants.{At}
 use Rattle.pg_lex.specs.declared.fault.TextKind.{TextKind}
 use Rattle.pg_lex.specs.declared.fault.TextKind.TheVariants.{Unexpected, TooMany}
 use Rattle.pg_lex.specs.Lex.{Cursor, Lexeme}
-use Rattle.pg_program.specs.NameTable.{NameTable}
-use Rattle.pg_program.specs.Fault.{is_auxiliary}
+use Rattle.pg_program.specs.NameTable.{NameTable, is_auxiliary}
 use Rattle.pg_program.specs.declared.name_table.NameRef.{NameRef}
 use Rattle.pg_program.specs.declared.name_table.NameRef.TheVariants as place
 use Rattle.pg_program.specs.declared.syntax.Expr.{Expr}

@@ -3,7 +3,7 @@
 
 ghost use Rattle.std.specs.Prelude.{◌≡◌, ◌≤◌, ◌+◌, ◌<◌, ◌^◌, ◌++◌, [], ◌∷◌, length, decimal, codes, map, drop, All, IfOk, OnOk, OnErr, MatchOption};
 ghost use Rattle.pg_program.specs.declared.syntax.Act.{out-Act};
-ghost use Rattle.pg_program.specs.Block.{block, first_of, second_of};
+ghost use Rattle.pg_program.specs.Block.{block, first_list as first_of, second_list as second_of};
 ghost use Rattle.pg_program.specs.Graph.{size, statements};
 ghost use Rattle.pg_program.specs.Graph as graph;
 ghost use Rattle.pg_program.specs.Program.{IsStmt};

@@ -1,7 +1,7 @@
 //! The parts of a statement, read from their tokens, but for the blocks of branches and loops.
 
 ghost use Rattle.std.specs.Prelude.{◌≡◌, ◌<◌, length, []};
-ghost use Rattle.pg_program.specs.Fault.{is_auxiliary};
+ghost use Rattle.pg_program.specs.NameTable.{is_auxiliary};
 ghost use Rattle.pg_assertion_text.specs.Input.{named as spec_named};
 ghost use Rattle.pg_lex.specs.Lex.{lexeme};
 ghost use Rattle.pg_assertion.specs.Formula.{plain};

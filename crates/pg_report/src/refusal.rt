@@ -113,7 +113,7 @@ fn called(kind: TextKind) -> &'static [u8]
 
 /// Appends a fault of the program.
 fn append_program_fault(fault: &ProgramFault, line: &mut Vec<u8>) -> Result<(), AllocError>
-    ensures { OnOk result (line.new.items ≡ line.old.items ++ program_text (program.told fault.now)) }
+    ensures { OnOk result (line.new.items ≡ line.old.items ++ program_text (program.plain_fault fault.now)) }
 {
     match fault {
         ProgramFault::DomainSize(n) => append_counted(b"domain ", *n, line),

@@ -2,7 +2,7 @@ use Rattle.std.proofs.Common.{ℕ, ◌<◌, List, length, sym, subst}
 use Rattle.std.specs.List.{All}
 use Rattle.pg_program.specs.declared.syntax.AuxAssign.{AuxAssign}
 use Rattle.pg_program.specs.Expr.{reads}
-use Rattle.pg_program.specs.Fault.{outside, bracket_scalars}
+use Rattle.pg_program.specs.Words.{outside, bracket_scalars}
 use Rattle.pg_machine.specs.Step.{bracket_of}
 use Rattle.pg_machine.proofs.Uses.{all_right, bracket_targets, bracket_names}
 use Rattle.pg_machine.proofs.row.run.Goals as goal

@@ -4,10 +4,10 @@ use Rattle.pg_outline.proofs.erasure.erased_names.Goals as goal
 use Rattle.pg_outline.proofs.erasure.erased_names.Goals.{in-Register+in_ok-declare-2, in_default}
 
 pub declare-requires-clause-absent : goal.declare-requires-clause-absent
-declare-requires-clause-absent c = new_location c.args.names.now c.locations-x-end.ensures.told_apart c.loop-x.x c.location_name.result.now c.loop-x.kept c.location_name.ensures c.loop-x.invariant
+declare-requires-clause-absent c = new_location c.args.names.now c.locations-x-end.ensures.distinct c.loop-x.x c.location_name.result.now c.loop-x.kept c.location_name.ensures c.loop-x.invariant
 
 pub declare-requires-in-Register-clause-absent : goal.declare-requires-in-Register-clause-absent
-declare-requires-in-Register-clause-absent c = new_scalar c.args.names.now c.locations-x-end.ensures.told_apart c.loop-r.r c.scalar_name.result.now c.loop-r.kept c.scalar_name.ensures c.loop-r.invariant
+declare-requires-in-Register-clause-absent c = new_scalar c.args.names.now c.locations-x-end.ensures.distinct c.loop-r.r c.scalar_name.result.now c.loop-r.kept c.scalar_name.ensures c.loop-r.invariant
 
 pub declare-requires-in-Register-clause-room : goal.declare-requires-in-Register-clause-room
 declare-requires-in-Register-clause-room c =

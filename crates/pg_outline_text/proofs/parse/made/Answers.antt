@@ -18,8 +18,8 @@ build-requires-2 c =
 pub returns-in-Err-clause-outline : goal.returns-in-Err-clause-outline
 returns-in-Err-clause-outline c =
     let same = c.in_ok-stmts.ensures.stmts ∙ stmts_of c.args.source.threads.items in
-    let told_is = program_told (as_source c.args.source) (program.told c.in-Err.fault)
-    (subst (λ ts. IfSome (program.told c.in-Err.fault) (λ f. program.first_fault c.args.source.names ts ≡ Some f)) same c.in-Err.ensures) in
+    let told_is = program_told (as_source c.args.source) (program.plain_fault c.in-Err.fault)
+    (subst (λ ts. IfSome (program.plain_fault c.in-Err.fault) (λ f. program.first_fault c.args.source.names ts ≡ Some f)) same c.in-Err.ensures) in
     subst (λ o. IfSome o (λ f. fault_in (as_source c.args.source) ≡ Some f)) (sym c.of_program.ensures.told) told_is
 
 pub returns-in-Ok-build-clause-outline : goal.returns-in-Ok-build-clause-outline

@@ -2,7 +2,7 @@ use Rattle.std.proofs.Common.{◌++◌, ◌+◌, ◌∙◌, List, ℕ, ap, ap₂
 use Rattle.std.proofs.lemmas.List.{drop_all, append-nil}
 use Rattle.std.specs.List.{All}
 use Rattle.pg_program.specs.declared.syntax.Stmt.{Stmt}
-use Rattle.pg_program.specs.Block.{block, first_of, second_of}
+use Rattle.pg_program.specs.Block.{block, first_list as first_of, second_list as second_of}
 use Rattle.pg_program.specs.Graph.{size}
 use Rattle.pg_assertion.specs.declared.atom.ViewAtom.{ViewAtom}
 use Rattle.pg_assertion.specs.Formula.{Plain, plain, AllAtoms}

@@ -1,6 +1,6 @@
 use Rattle.std.proofs.Common.{◌≡◌, ◌++◌, ◌+◌, ◌*◌, ◌≤◌, drop, map}
 use Rattle.std.specs.List.{All}
-use Rattle.pg_program.specs.Block.{block, first_of, second_of}
+use Rattle.pg_program.specs.Block.{block, first_list as first_of, second_list as second_of}
 use Rattle.pg_program.specs.Graph.{size}
 use Rattle.pg_assertion.specs.Formula.{plain, AllAtoms}
 use Rattle.pg_assertion.specs.Atom.{NamesDeclared}

@@ -2,7 +2,7 @@ use Rattle.std.proofs.Common.{ℕ, ◌<◌, IsSome, List, length, sym, ap, subst
 use Rattle.std.specs.List.{All}
 use Rattle.pg_program.specs.declared.point.Branch.{Branch}
 use Rattle.pg_program.specs.declared.point.Step.{Step}
-use Rattle.pg_program.specs.Fault.{outside, scalars_of, locations_of}
+use Rattle.pg_program.specs.Words.{outside, scalars_of, locations_of}
 use Rattle.pg_program.specs.Graph.{target_of}
 use Rattle.pg_machine.specs.State.{State}
 use Rattle.pg_machine.specs.Step.{leaves, act_of, branch_taken, IsStep}
