@@ -92,7 +92,7 @@ newest_read_is_last s t x v newest is =
 
 -- ---- covered positions
 
--- what a `flushopt` is ordered behind lies between a thread's coherence and ready views and its greatest coherence view
+-- what a `flushopt` is ordered after lies between a thread's coherence and ready views and its greatest coherence view
 pub coh-ordered : (w : Views) (x : ℕ) → coh_of w x ≤ ordered w x
 coh-ordered w x = omega arith
 

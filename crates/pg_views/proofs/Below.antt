@@ -61,7 +61,7 @@ shown-at m x c n v p h =
     let within = is_at-within m.messages x p at in
     some_below-here (shows m x c n v) (suc (length m.messages)) p (omega (arith, within)) h
 
--- ---- what the scans tell
+-- ---- what the scans find
 
 pub reached-by : (ms : List (ℕ × ℕ)) (x c n p : ℕ) (o : Option ℕ) (b : Bool) → is_at ms x p ≡ true → c ≤ p → MatchOption o (is_clear ms x p n ≡ true) (λ q. IsLeastHiding ms x p n q)
     → is_some o ≡ not b → b ≡ reaches ms x c n p

@@ -109,8 +109,8 @@ among-range a (suc n) x low high = elim (cases_lt a x) [
 ]
 
 among-past : (a n x : ℕ) → a + n ≤ x → among (range_with_len a n) x ≡ false
-among-past a zero x behind = refl
-among-past a (suc n) x behind =
+among-past a zero x past = refl
+among-past a (suc n) x past =
     or_from (a == x) (among (range_with_len (a + 1) n) x) (ne_eqb a x (λ e. omega (arith, e))) (among-past (a + 1) n x (omega arith))
 
 -- of the first n locations those that the formula names

@@ -1,5 +1,5 @@
--- What each atom of an assertion says of a state. A view of a location shows some of its positions, and what most atoms tell
--- of is the set of the values there.
+-- What each atom of an assertion says of a state. A view of a location shows some of its positions, and most atoms
+-- speak of the set of the values there.
 use Rattle.std.specs.Prelude.{ℕ, zero, suc, max, Bool, false, not, ◌&&◌, ◌||◌, ◌==◌, nat_le, length, slice_index}
 use Rattle.pg_assertion.specs.declared.atom.ViewAtom.{ViewAtom}
 use Rattle.pg_assertion.specs.declared.atom.ViewAtom.TheVariants.{Scalar, Last, Read, Persist, Async, Then, Newest, Ordered, Fenced}
@@ -54,11 +54,11 @@ may_read_then n x v y w = some_position n.memory (λ p. reads n x v p && may_rea
 abbrev pub reads_newest : Seen → ℕ → Bool
 reads_newest n x = every_position n.memory (λ p. not (can_read n x p) || (p == last n.memory.messages x))
 
--- O(t,x): the last position of x is covered by what a `flushopt` of x is ordered behind
+-- O(t,x): the last position of x is covered by what a `flushopt` of x is ordered after
 abbrev pub covers_ordered : Seen → ℕ → Bool
 covers_ordered n x = nat_le (last n.memory.messages x) (ordered n.views x)
 
--- F(t,x): the last position of x is covered by what a `flush` is ordered behind
+-- F(t,x): the last position of x is covered by what a `flush` is ordered after
 abbrev pub covers_fenced : Seen → ℕ → Bool
 covers_fenced n x = nat_le (last n.memory.messages x) (maxcoh n.views)
 
@@ -69,8 +69,8 @@ abbrev pub may_persist : State → ℕ → ℕ → Bool
 may_persist s x v = is_shown s.memory x 0 (committed s x) v
 
 -- A(t,x,v): and up to what thread t has begun to write back, which its next fence commits
-abbrev pub may_persist_behind : State → ℕ → ℕ → ℕ → Bool
-may_persist_behind s t x v = is_shown s.memory x 0 (max (committed s x) (vpa_of (views_of s t) x)) v
+abbrev pub may_persist_after_fence : State → ℕ → ℕ → ℕ → Bool
+may_persist_after_fence s t x v = is_shown s.memory x 0 (max (committed s x) (vpa_of (views_of s t) x)) v
 
 -- ---- atoms
 
@@ -79,7 +79,7 @@ atom_holds s (Scalar r k) = slice_index s.scalars r == k
 atom_holds s (Last x v) = is_last s.memory x v
 atom_holds s (Read t x v) = may_read (seen_by s t) x v
 atom_holds s (Persist x v) = may_persist s x v
-atom_holds s (Async t x v) = may_persist_behind s t x v
+atom_holds s (Async t x v) = may_persist_after_fence s t x v
 atom_holds s (Then t x v y w) = may_read_then (seen_by s t) x v y w
 atom_holds s (Newest t x) = reads_newest (seen_by s t) x
 atom_holds s (Ordered t x) = covers_ordered (seen_by s t) x

@@ -30,12 +30,12 @@ abbrev pub HasOneScalarValue : Type 0
 HasOneScalarValue =
     (p : ProgramTable) (s : State) (r : ℕ) → IsWellFormed p s → r < length p.names.scalars → (k : ℕ) × IsTheValue s p.names.domain (Scalar r) k
 
--- The last value may persist, each thread may read it, and it may persist behind a fence of each thread.
+-- The last value may persist, each thread may read it, and it may persist after a fence of each thread.
 abbrev pub LastIsShown : Type 0
 LastIsShown =
     (p : ProgramTable) (s : State) (t x v : ℕ) → HasThread p s t → Holds s (Last x v) → Holds s (Persist x v) × Holds s (Read t x v) × Holds s (Async t x v)
 
--- What may persist behind a fence may persist without it.
+-- What may persist after a fence may persist without it.
 abbrev pub PendingMayPersist : Type 0
 PendingMayPersist = (s : State) (t x v : ℕ) → Holds s (Async t x v) → Holds s (Persist x v)
 
@@ -43,7 +43,7 @@ PendingMayPersist = (s : State) (t x v : ℕ) → Holds s (Async t x v) → Hold
 abbrev pub NewestReadIsLast : Type 0
 NewestReadIsLast = (s : State) (t x v : ℕ) → Holds s (Newest t x) → Holds s (Read t x v) → Holds s (Last x v)
 
--- A last position that alone may be read is covered by what a `flushopt` is ordered behind, and this by what a `flush` is.
+-- A last position that alone may be read is covered by what a `flushopt` is ordered after, and this by what a `flush` is.
 abbrev pub NewestIsOrdered : Type 0
 NewestIsOrdered = (p : ProgramTable) (s : State) (t x : ℕ) → HasThread p s t → Holds s (Newest t x) → Holds s (Ordered t x)
 

@@ -6,7 +6,7 @@ use Rattle.pg_machine.specs.Memory.{Memory, value_at, reaches}
 use Rattle.pg_machine.specs.State.{State, committed}
 use Rattle.pg_views.specs.Formula.{holds_crash}
 
--- a crash may leave x as it is at p: p is a position of x behind which no message to x was committed
+-- a crash may leave x as it is at p: p is a position of x after which no message to x was committed
 abbrev pub survives : State → ℕ → ℕ → Bool
 survives s x p = reaches s.memory.messages x 0 (committed s x) p
 

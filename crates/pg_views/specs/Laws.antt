@@ -26,7 +26,7 @@ ShownNests =
     (m : Memory) (x c n d k : ℕ)
     → ((v : ℕ) → is_shown m x c n v ≡ true → is_shown m x d k v ≡ true) ⊎ ((v : ℕ) → is_shown m x d k v ≡ true → is_shown m x c n v ≡ true)
 
--- The sets of values of a location: what a thread may read, what may persist, and what may persist behind a fence of a thread.
+-- The sets of values of a location: what a thread may read, what may persist, and what may persist after a fence of a thread.
 pub data ValueSet : Type 0 where
   readable : ℕ → ValueSet
   persistent : ValueSet

@@ -7,3 +7,8 @@ pub mod Parts
 pub mod CrashLaw
 pub mod Laws
 pub mod Axioms
+pub use Rattle.pg_machine.specs.Limits
+pub use Rattle.pg_machine.specs.Memory
+pub use Rattle.pg_machine.specs.State
+pub use Rattle.pg_machine.specs.Moves
+pub use Rattle.pg_machine.specs.Step

@@ -6,7 +6,7 @@ ghost use Rattle.pg_assertion.specs.Layout.{sizes, IsAtom};
 ghost use Rattle.pg_machine.specs.State.{IsWellFormed, coh_of, committed};
 ghost use Rattle.pg_machine.specs.Moves.{load_seen};
 ghost use Rattle.pg_machine.specs.Step.{views_of, seen_by};
-ghost use Rattle.pg_views.specs.Atom.{atom_holds, may_read, may_read_then, reads_newest, covers_ordered, covers_fenced, may_persist, may_persist_behind};
+ghost use Rattle.pg_views.specs.Atom.{atom_holds, may_read, may_read_then, reads_newest, covers_ordered, covers_fenced, may_persist, may_persist_after_fence};
 ghost use Rattle.pg_views.specs.Parts.{Has};
 
 use crate::window::Window;
@@ -25,7 +25,7 @@ pub fn holds_atom(s: &State, p: &Program, a: &ViewAtom) -> bool
         ViewAtom::Last { x, v } => s.memory().last_value(*x) == *v,
         ViewAtom::Read { t, x, v } => readable(s, *t, *x).is_shown(s.memory(), *v),
         ViewAtom::Persist { x, v } => may_persist(s, p, *x, *v),
-        ViewAtom::Async { t, x, v } => may_persist_behind(s, p, *t, *x, *v),
+        ViewAtom::Async { t, x, v } => may_persist_after_fence(s, p, *t, *x, *v),
         ViewAtom::Then { t, x, v, y, w } => may_read_then(s, *t, *x, *v, *y, *w),
         ViewAtom::Newest { t, x } => reads_newest(s, *t, *x),
         ViewAtom::Ordered { t, x } => covers_ordered(s, *t, *x),
@@ -95,7 +95,7 @@ fn reads_newest(s: &State, t: u8, x: u8) -> bool
     true
 }
 
-/// Whether a thread's `flushopt` of a location is ordered behind its last position.
+/// Whether a thread's `flushopt` of a location is ordered after its last position.
 fn covers_ordered(s: &State, t: u8, x: u8) -> bool
     requires { Has s.now.state t x }
     ensures { result ≡ covers_ordered (seen_by s.now.state t) x }
@@ -118,10 +118,10 @@ fn may_persist(s: &State, p: &Program, x: u8, v: u8) -> bool
 }
 
 /// Whether a crash may leave a value in a location once a fence of the thread has committed what it has begun to write back.
-fn may_persist_behind(s: &State, p: &Program, t: u8, x: u8, v: u8) -> bool
+fn may_persist_after_fence(s: &State, p: &Program, t: u8, x: u8, v: u8) -> bool
     requires formed { IsWellFormed p.now s.now.state }
     requires has { Has s.now.state t x }
-    ensures { result ≡ may_persist_behind s.now.state t x v }
+    ensures { result ≡ may_persist_after_fence s.now.state t x v }
 {
     let window = Window {
         location: x,

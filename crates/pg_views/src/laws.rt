@@ -39,7 +39,7 @@ pub fn shown_values_nest()
     ensures { ShownNests }
 {}
 
-/// Of what threads may read of a location, what may persist of it, and what may persist of it behind a fence, any two sets nest.
+/// Of what threads may read of a location, what may persist of it, and what may persist of it after a fence, any two sets nest.
 pub fn value_sets_nest()
     ensures { ValueSetsNest }
 {}
@@ -68,12 +68,12 @@ pub fn there_is_one_value()
     ensures scalar { HasOneScalarValue }
 {}
 
-/// In a well-formed state the last value of a location may persist, also behind a fence, and each thread may read it.
+/// In a well-formed state the last value of a location may persist, also after a fence, and each thread may read it.
 pub fn the_last_value_is_shown()
     ensures { LastIsShown }
 {}
 
-/// What may persist behind a fence of a thread may persist.
+/// What may persist after a fence of a thread may persist.
 pub fn what_is_pending_may_persist()
     ensures { PendingMayPersist }
 {}
@@ -83,8 +83,8 @@ pub fn the_newest_read_is_the_last_value()
     ensures { NewestReadIsLast }
 {}
 
-/// In a well-formed state a last position that alone may be read is covered by what a `flushopt` is ordered behind, and what
-/// this covers by what a `flush` is ordered behind.
+/// In a well-formed state a last position that alone may be read is covered by what a `flushopt` is ordered after, and what
+/// this covers by what a `flush` is ordered after.
 pub fn what_is_newest_is_covered()
     ensures ordered { NewestIsOrdered }
     ensures fenced { OrderedIsFenced }

@@ -4,7 +4,7 @@
 //! What this crate promises the layers above: the definitions, in `specs/`: the truth of the nine kinds of atom in a state, by
 //! the positions that a view shows; that of formulas; crash choices and the memories that they leave; when a crash formula
 //! holds at a crash; and executions. `holds_atom`, `holds` and `holds_crash` answer just these meanings, and take no memory.
-//! `crash` gives the memory of a crash choice, or tells exactly the first fault of positions that are none. The laws in `laws`
+//! `crash` gives the memory of a crash choice, or gives exactly the first fault of positions that are none. The laws in `laws`
 //! say of the definitions that the expansion of a crash formula says just what the formula says at a crash, how the sets of what
 //! is readable nest and what changes them, and which atoms give which.
 #![tactic(auto)]

@@ -34,8 +34,8 @@ impl Window {
         self.reaches(memory, position) && memory.value_at(self.location, position) == value
     }
 
-    /// The first of them that has this value. All scans together take a time that is linear in the messages: a position
-    /// that is hidden is so by the next one of its location, and all that are not lie behind `upto`, but for the first.
+    /// The first of them that has this value. All scans together take a time that is linear in the messages: a position that
+    /// is hidden is hidden by the next one of its location, and those that are not hidden lie after `upto`, but for the first.
     pub fn first(self, memory: &Memory, value: u8) -> Option<u32>
         requires { self.location < length memory.now.memory.initial }
         ensures { MatchOption result (is_shown memory.now.memory self.location self.from self.upto value ≡ false) (λ p. IsFirstShown memory.now.memory self.location self.from self.upto value p) }

@@ -100,14 +100,14 @@ may_persist-requires-clause-location c =
 pub returns-in-Persist : goal.returns-in-Persist
 returns-in-Persist c = c.may_persist.ensures ∙ sym (ap (atom_holds c.args.s.now.state) c.in-Persist.is)
 
-pub may_persist_behind-requires-clause-has : goal.may_persist_behind-requires-clause-has
-may_persist_behind-requires-clause-has c =
+pub may_persist_after_fence-requires-clause-has : goal.may_persist_after_fence-requires-clause-has
+may_persist_after_fence-requires-clause-has c =
     let p = c.args.p.now in
     let parts = subst (IsAtom (sizes p.names (length p.threads))) c.in-Async.is c.requires.atom in
     has_views p c.args.s.now.state c.in-Async.t c.in-Async.x c.requires.formed parts.0 parts.1
 
 pub returns-in-Async : goal.returns-in-Async
-returns-in-Async c = c.may_persist_behind.ensures ∙ sym (ap (atom_holds c.args.s.now.state) c.in-Async.is)
+returns-in-Async c = c.may_persist_after_fence.ensures ∙ sym (ap (atom_holds c.args.s.now.state) c.in-Async.is)
 
 -- ---- what is covered
 
