@@ -1,5 +1,5 @@
 -- An event has one fault at most, and where it has one it leads to no state within the limit of messages.
-use Rattle.std.proofs.Common.{rules, Result, Ok, Err, OnOk, IfErr, ◌≡◌, ℕ, zero, suc, ◌<◌, ◌≤◌, ◌⊎◌, Bool, true, false, not, ◌&&◌, nat_le, List, [], ◌∷◌, ◌++◌, length, Option, Some, None, inl, inr, refl, sym, ap, ap₂, subst, ◌∙◌, arith}
+use Rattle.std.proofs.Common.{rules, Result, Ok, Err, OnOk, IfErr, ◌≡◌, ℕ, suc, ◌<◌, ◌≤◌, ◌⊎◌, Bool, true, false, not, ◌&&◌, nat_le, List, [], ◌∷◌, ◌++◌, length, Option, Some, None, inl, inr, refl, sym, ap, ap₂, subst, ◌∙◌, arith}
 use Rattle.std.proofs.lemmas.Bool.{and_parts, leb-true, true≢false, false≢true, cases_order}
 use Rattle.std.proofs.lemmas.List.{length_push}
 use Rattle.pg_program.specs.declared.syntax.Stmt.{Stmt}
@@ -10,7 +10,7 @@ use Rattle.pg_machine.specs.declared.event.Event.{Event}
 use Rattle.pg_machine.specs.declared.fault.StepFault.{StepFault}
 use Rattle.pg_machine.specs.declared.fault.StepFault.TheVariants.{NoThread, Ended, NotAPosition, BelowCoherence, Hidden, NoMemory}
 use Rattle.pg_machine.specs.Limits.{most_messages}
-use Rattle.pg_machine.specs.Memory.{is_at, every_below, hides, is_clear, reaches}
+use Rattle.pg_machine.specs.Memory.{is_at, hides, is_clear, reaches}
 use Rattle.pg_machine.specs.State.{State, coh_of, point_of}
 use Rattle.pg_machine.specs.Moves.{Seen}
 use Rattle.pg_machine.specs.Step.{Left, Row, HasThread, seen_by, act_of, IsStep}

@@ -1,5 +1,5 @@
 -- What a list that is made item by item has.
-use Rattle.std.proofs.Common.{◌≡◌, ℕ, zero, suc, ◌+◌, ◌<◌, List, [], ◌∷◌, ◌++◌, length, map, take, get_or, Some, option_map, slice_get, refl, ap, ◌∙◌, arith}
+use Rattle.std.proofs.Common.{◌≡◌, ℕ, zero, suc, ◌+◌, ◌<◌, List, [], ◌∷◌, ◌++◌, length, map, take, get_or, Some, option_map, slice_get, ap, ◌∙◌, arith}
 use Rattle.std.proofs.Math.Seq.{take-suc}
 
 -- the second part of a pair in a list

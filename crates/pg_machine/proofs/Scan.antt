@@ -1,7 +1,7 @@
 -- What the scans of messages and positions find.
-use Rattle.std.proofs.Common.{◌≡◌, ℕ, zero, suc, ◌+◌, ◌-◌, ◌<◌, ◌≤◌, ◌==◌, max, nat_le, nat_lt, Bool, true, false, cond, not, ◌&&◌, List, [], ◌∷◌, length, get_or, set, drop, refl, inl, inr, sym, ap, ◌∙◌, arith}
+use Rattle.std.proofs.Common.{◌≡◌, ℕ, zero, suc, ◌+◌, ◌-◌, ◌<◌, ◌≤◌, ◌==◌, max, nat_le, nat_lt, true, false, cond, not, ◌&&◌, List, [], ◌∷◌, length, get_or, set, drop, refl, inl, inr, sym, ap, ◌∙◌, arith}
 use Rattle.std.proofs.lemmas.Bool.{lt-leb, lt-ltb, le-leb, cases_lt, true≢false, and_left, and_right, and_from}
-use Rattle.pg_machine.specs.Memory.{is_to, is_at, last_upto, every_below, hides, is_clear}
+use Rattle.pg_machine.specs.Memory.{is_to, is_at, last_upto, hides, is_clear}
 use Rattle.pg_machine.specs.State.{greatest}
 use Rattle.pg_machine.specs.Moves.{greater}
 use Rattle.pg_machine.proofs.EveryBelow.{every_below-all}

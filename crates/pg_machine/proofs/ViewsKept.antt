@@ -1,11 +1,11 @@
 -- What each move keeps of a thread's views, and of those of the others.
-use Rattle.std.proofs.Common.{◌≡◌, ℕ, zero, suc, ◌+◌, ◌<◌, ◌≤◌, ◌==◌, max, Bool, true, false, cond, List, [], ◌∷◌, ◌++◌, length, replicate, get_or, set, inl, inr, refl, sym, ap, ◌∙◌, arith}
+use Rattle.std.proofs.Common.{◌≡◌, ℕ, zero, suc, ◌+◌, ◌<◌, ◌≤◌, ◌==◌, max, Bool, true, false, cond, List, length, replicate, get_or, set, inl, inr, refl, sym, ap, ◌∙◌, arith}
 use Rattle.std.specs.List.{All}
 use Rattle.std.proofs.Math.Nat.{max-le}
 use Rattle.std.proofs.lemmas.Bool.{cases_eq}
 use Rattle.std.proofs.lemmas.List.{length-set, length_push, length-replicate, get_or-replicate, get_or-set_same, get_or-set_other}
 use Rattle.std.proofs.lemmas.List.Elements.{All-weaker, All-set, All-replicate}
-use Rattle.pg_machine.specs.Memory.{Memory, is_to, is_at, message_appended}
+use Rattle.pg_machine.specs.Memory.{Memory, is_at, message_appended}
 use Rattle.pg_machine.specs.State.{Views, greatest, coh_of, vpa_of, vpc_of, maxcoh, ordered, AreViews, fresh_views}
 use Rattle.pg_machine.specs.Moves.{greater, store_seen, load_seen, mfence_seen, sfence_seen, flush_seen, flushopt_seen, swap_seen}
 use Rattle.pg_machine.proofs.PositionLists.{greatest-above, greatest-raised, at-bounded, greater-bounded, greater-length}

@@ -1,4 +1,4 @@
-use Rattle.std.proofs.Common.{◌<◌, None, length, refl, arith}
+use Rattle.std.proofs.Common.{None, length, refl, arith}
 use Rattle.std.proofs.lemmas.Result.{err_from_is_err_and}
 use Rattle.pg_machine.specs.StepParts.{seen_in}
 use Rattle.pg_machine.proofs.Uses.{cas_refusal, cas_uses, cas_location, store_uses, store_location}

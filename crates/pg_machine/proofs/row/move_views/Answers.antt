@@ -1,4 +1,4 @@
-use Rattle.std.proofs.Common.{◌<◌, length, arith}
+use Rattle.std.proofs.Common.{length, arith}
 use Rattle.pg_machine.proofs.Uses.{assign_uses}
 use Rattle.pg_machine.proofs.row.move_views.Goals as goal
 
