@@ -1,7 +1,7 @@
 -- Tests of some number below a bound, and what a view shows.
 use Rattle.std.proofs.Common.{◌≡◌, ℕ, zero, suc, ◌<◌, ◌≤◌, Bool, true, false, not, ◌&&◌, ◌||◌, ◌==◌, nat_le, List, length, Option, Some, None, is_some, MatchOption, inl, inr, refl, sym, ap, subst, ◌∙◌, arith}
 use Rattle.std.proofs.lemmas.Bool.{cases_order, and_parts, and_from, and_left, and_right, or_left, or_right, or_from, false_from_ne_true, true≢false, le-leb, eq-eqb, ne_eqb}
-use Rattle.pg_machine.specs.Memory.{Memory, every_below, is_at, is_clear, reaches, last}
+use Rattle.pg_machine.specs.Memory.{Memory, is_at, is_clear, reaches, last}
 use Rattle.pg_machine.specs.State.{coh_of}
 use Rattle.pg_machine.specs.Moves.{Seen, can_read}
 use Rattle.pg_machine.specs.Fault.{IsLeastHiding}

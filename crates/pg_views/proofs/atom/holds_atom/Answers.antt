@@ -1,8 +1,7 @@
-use Rattle.std.proofs.Common.{◌≡◌, ℕ, ◌==◌, length, nat_le, get_or, List, sym, ap, ap₂, subst, ◌∙◌, arith}
-use Rattle.pg_assertion.specs.declared.atom.ViewAtom.{ViewAtom}
+use Rattle.std.proofs.Common.{ℕ, ◌==◌, length, nat_le, get_or, List, sym, ap, ap₂, subst, ◌∙◌, arith}
 use Rattle.pg_assertion.specs.Layout.{sizes, IsAtom}
 use Rattle.pg_machine.specs.Memory.{Memory, last, last_value}
-use Rattle.pg_machine.specs.State.{coh_of, maxcoh}
+use Rattle.pg_machine.specs.State.{coh_of}
 use Rattle.pg_machine.specs.Step.{views_of}
 use Rattle.pg_views.specs.Atom.{atom_holds}
 use Rattle.pg_views.proofs.Below.{shown-same}
