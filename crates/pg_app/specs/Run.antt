@@ -1,13 +1,14 @@
 -- How a call of the program ends. `told` gives the bytes of a name, where the room tells them;
 -- `old` and `new` are what the sink tells it has written.
-use Rattle.std.specs.Prelude.{◌≡◌, ◌≢◌, ℕ, ◌+◌, ◌≤◌, ◌⊎◌, List, [], ◌∷◌, length, Option, None, Some, IsSome, IsSomeAnd, IfSome, String}
+use Rattle.std.specs.Prelude.{◌≡◌, ◌≢◌, ℕ, ◌+◌, ◌≤◌, ◌⊎◌, List, [], ◌∷◌, length, Option, None, Some, IsSome, IsNone, IsSomeAnd, IfSome, IfNone, Contains, String}
 use Rattle.std.specs.declared.alloc.Global.{Global}
 use Rattle.pg_io.specs.Counts.{Rose, RoseBy}
 use Rattle.pg_io.specs.Told.{IsTold, IsTooLong}
 use Rattle.pg_io.specs.Written.{appended, AppendsPart}
 use Rattle.pg_app.specs.Line.{usage, too_long}
-use Rattle.pg_app.specs.Answer.{longest_file, Answers, Defined}
+use Rattle.pg_app.specs.Answer.{longest_file, name_of, Answers, Defined}
 use Rattle.pg_app.specs.Put.{Puts}
+use Rattle.pg_app.specs.Safety.{IsSafeText}
 
 -- the statuses of the program
 abbrev pub statuses : List ℕ
@@ -73,3 +74,22 @@ pub record Ends (name : Option (List ℕ)) (told : List ℕ → Option (List ℕ
   pub how :
       Puts (DueFor name told taken taken_now) status old new before now
       ⊎ IsUnfetched name faults faults_now status old new
+
+-- What a run of the program on these words does, in the clauses of `run`.
+pub record IsRun (words : List (String Global)) (told : List ℕ → Option (List ℕ)) (faults faults_now : List ℕ → ℕ) (taken taken_now status : ℕ) (old new : Option (List ℕ)) (before now : ℕ) : Type 0 where
+  pub range : Contains statuses status
+  pub read_fault : status ≡ 6 → IsSomeAnd (name_of words) (λ name. Rose (faults name) (faults_now name))
+  pub nothing_read : status ≡ 6 → new ≡ old
+  pub write_fault : status ≡ 7 → Rose before now
+  pub too_long : status ≡ 10 → IsSome (name_of words) × RoseBy (longest_file + 1) taken taken_now
+  pub usage : status ≡ 8 → IsNone (name_of words) × (new ≡ appended old usage)
+  pub nameless : IfNone (name_of words) (status ≡ 8 ⊎ (status ≡ 7 ⊎ status ≡ 9))
+  pub defined : IsKnown (name_of words) told → IsAnswer status → Writes words told status old new
+  pub only : HasOneAnswer words told
+  pub part : IsKnown (name_of words) told → status ≡ 7 ⊎ status ≡ 9 →
+      (new ≡ old) ⊎ WritesPart words told old new
+  pub complete : IsKnown (name_of words) told →
+      IfSome (name_of words) (λ name. ¬ Rose (faults name) (faults_now name)) →
+      ¬ Rose before now →
+      Writes words told status old new ⊎ (status ≡ 9)
+  pub safe : status ≡ 0 → IfSome (name_of words) (λ name. IfSome (told name) (λ bytes. IsSafeText bytes))

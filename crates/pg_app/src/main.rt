@@ -15,7 +15,7 @@ mod run;
 mod status;
 mod words;
 
-use crate::run::run;
+use crate::run::started;
 use crate::status::{NO_COMMAND, NO_MEMORY};
 use pg_io::{FileRoom, StdSink};
 use std::process::ExitCode;
@@ -30,14 +30,9 @@ fn main(rt: HostRuntime) -> ExitCode {
 fn perform<R: Env + Files + Print + AllocGlobal>(rt: &R) -> u8
     ensures { Contains statuses result }
 {
-    match collected_words(rt) {
-        Ok(words) => {
-            let mut room = FileRoom::make(rt);
-            let mut out = StdSink::make(rt);
-            run(rt.alloc(), words.as_slice(), &mut room, &mut out)
-        }
-        Err(status) => status,
-    }
+    let mut room = FileRoom::make(rt);
+    let mut out = StdSink::make(rt);
+    started(rt.alloc(), collected_words(rt), &mut room, &mut out)
 }
 
 // The words after the program's own name, or the status to end with.

@@ -4,7 +4,7 @@
 //! failed fetch, a failed put and want of memory is the defined one for the words and the file, and
 //! its whole line was written. A failed fetch or put is answered only where a count of faults rose.
 
-ghost use Rattle.std.specs.Prelude.{◌≡◌, ◌≢◌, ◌⊎◌, ◌+◌, ◌≤◌, ℕ, List, length, Some, IsSome, IsNone, IsSomeAnd, IfSome, IfNone, IfOk, Contains};
+ghost use Rattle.std.specs.Prelude.{◌≡◌, ◌≢◌, ◌⊎◌, ◌+◌, ◌≤◌, ℕ, List, length, Some, IsSome, IsNone, IsSomeAnd, IfSome, IfNone, IfOk, IfErr, OnErr, Contains};
 ghost use Rattle.pg_io.specs.Counts.{Rose, RoseBy};
 ghost use Rattle.pg_io.specs.Written.{appended};
 ghost use Rattle.pg_app.specs.Line.{usage, too_long};
@@ -14,7 +14,7 @@ ghost use Rattle.pg_outline_text.specs.Text.{StandsFor, Tells};
 ghost use Rattle.pg_app.specs.Outcome.{status_of};
 ghost use Rattle.pg_app.specs.Put.{Puts};
 ghost use Rattle.pg_app.specs.Safety.{IsSafeText};
-ghost use Rattle.pg_app.specs.Run.{statuses, HasOneAnswer, IsAnswer, IsKnown, Writes, WritesPart, Ends};
+ghost use Rattle.pg_app.specs.Run.{statuses, HasOneAnswer, IsAnswer, IsKnown, IsRun, Writes, WritesPart, Ends};
 
 use crate::judge::{Outcome, judged};
 use crate::line::{outcome_line, too_long_line};
@@ -74,6 +74,29 @@ pub fn run<R: Room, K: Sink>(alloc: Global, words: &[String], room: &mut R, out:
     match checked_name(words) {
         Some(name) => check(alloc, name, room, out),
         None => finish(out, NO_COMMAND, b"usage: check NAME\n"),
+    }
+}
+
+/// Runs on the words, or ends with the status that they were refused with, and nothing is read or
+/// written. This project's own.
+pub fn started<R: Room, K: Sink>(
+    alloc: Global,
+    words: Result<Vec<String>, u8>,
+    room: &mut R,
+    out: &mut K,
+) -> u8
+    ensures ran { IfOk words (λ list. IsRun list.items (R.told room.old)
+        (R.faults room.old) (R.faults room.new) (R.taken room.old) (R.taken room.new)
+        result (K.written out.old) (K.written out.new) (K.faults out.old) (K.faults out.new)) }
+    ensures unasked { IfOk words (λ list. IfNone (name_of list.items) (room.new ≡ room.old)) }
+    ensures refused { IfErr words (λ status. result ≡ status) }
+    ensures unread { OnErr words (room.new ≡ room.old) }
+    ensures unwritten { OnErr words (out.new ≡ out.old) }
+    ensures told { (n : List ℕ) → R.told room.new n ≡ R.told room.old n }
+{
+    match words {
+        Ok(words) => run(alloc, words.as_slice(), room, out),
+        Err(status) => status,
     }
 }
 

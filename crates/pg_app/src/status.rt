@@ -6,7 +6,7 @@ pub const ACCEPTED: u8 = 0;
 /// An obligation does not follow.
 pub const REJECTED: u8 = 1;
 
-/// The file is not of the form.
+/// The first file stands for no well-formed outline, or for one that is not judged yet.
 pub const REFUSED: u8 = 3;
 
 /// The fetch of the file failed.

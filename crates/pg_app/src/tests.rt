@@ -1,42 +1,82 @@
 // Calls of the program over rooms and sinks in memory.
 use crate::run::run;
-use pg_io::{MemoryRoom, MemorySink, QuietRoom, QuietSink};
+use pg_io::{MemoryRoom, MemorySink, QuietRoom, QuietSink, Room, Sink};
 use std::alloc::{AllocError, Global};
+use std::fmt::Debug;
 use std::test::Fail;
 
-// The files, each filled up with blanks to a length. In `r21` a store stands between two assertions, and in
-// `r21b` the second one still has the old value. `full` is as long as a file may be, and `big` is a byte longer.
+// Passes where what was found is what is wanted in this case.
+fn agree<T: PartialEq + Debug + Copy>(found: T, wanted: T, case: &[u8]) -> Result<(), Fail> {
+    if found == wanted {
+        return Ok(());
+    }
+    let case = case.escape_ascii();
+    Err(Fail::new(format_args!("found {found:?}, and not {wanted:?}, in \"{case}\"")))
+}
+
+// A file, filled up with blanks to a length.
+struct File {
+    name: &'static str,
+    text: &'static [u8],
+    length: usize,
+}
+
+// In `r21` a store stands between two assertions, and in `r21b` the second one still has the old
+// value. `full` is as long as a file may be, and `big` is a byte longer.
+static FILES: [File; 7] = [
+    File {
+        name: "r21",
+        text: b"pierogi 1; values 2; location x = 0; pre L(x,0); thread 1 { [L(x,0)] x := 1; [L(x,1)] }",
+        length: 0,
+    },
+    File {
+        name: "r21b",
+        text: b"pierogi 1; values 2; location x = 0; pre L(x,0); thread 1 { [L(x,0)] x := 1; [L(x,0)] }",
+        length: 0,
+    },
+    File {
+        name: "r3",
+        text: b"pierogi 1; values 2; thread 1 { [ true ] }",
+        length: 0,
+    },
+    File {
+        name: "full",
+        text: b"pierogi 1; values 2; thread 1 { [ true ] }",
+        length: 1_048_576,
+    },
+    File {
+        name: "big",
+        text: b"pierogi 1; values 2; thread 1 { [ true ] }",
+        length: 1_048_577,
+    },
+    File {
+        name: "blank",
+        text: b"",
+        length: 1_048_576,
+    },
+    File {
+        name: "empty",
+        text: b"",
+        length: 0,
+    },
+];
+
+fn listed(alloc: Global, file: &'static File) -> Result<(String, Vec<u8>), AllocError> {
+    let name = String::from_str(alloc, file.name)?;
+    Ok((name, filled(alloc, file.text, file.length, b' ')?))
+}
+
+// A text, filled up with a byte to a length.
+fn filled(alloc: Global, text: &[u8], length: usize, byte: u8) -> Result<Vec<u8>, AllocError> {
+    let mut bytes = Vec::from_slice(alloc, text)?;
+    bytes.resize(text.len().max(length), byte)?;
+    Ok(bytes)
+}
+
 fn files(alloc: Global) -> Result<Vec<(String, Vec<u8>)>, AllocError> {
     let mut files = Vec::new(alloc);
-    for (name, text, length) in [
-        (
-            "r21",
-            "pierogi 1; values 2; location x = 0; pre L(x,0); thread 1 { [L(x,0)] x := 1; [L(x,1)] }",
-            0,
-        ),
-        (
-            "r21b",
-            "pierogi 1; values 2; location x = 0; pre L(x,0); thread 1 { [L(x,0)] x := 1; [L(x,0)] }",
-            0,
-        ),
-        ("r3", "pierogi 1; values 2; thread 1 { [ true ] }", 0),
-        (
-            "full",
-            "pierogi 1; values 2; thread 1 { [ true ] }",
-            1_048_576,
-        ),
-        (
-            "big",
-            "pierogi 1; values 2; thread 1 { [ true ] }",
-            1_048_577,
-        ),
-        ("blank", "", 1_048_576),
-        ("empty", "", 0),
-    ] {
-        let name = String::from_str(alloc, name)?;
-        let mut bytes = Vec::from_slice(alloc, text.as_bytes())?;
-        bytes.resize(text.len().max(length), b' ')?;
-        files.push((name, bytes))?;
+    for file in &FILES {
+        files.push(listed(alloc, file)?)?;
     }
     Ok(files)
 }
@@ -45,443 +85,556 @@ fn files(alloc: Global) -> Result<Vec<(String, Vec<u8>)>, AllocError> {
 fn word_list(alloc: Global, words: &[&str]) -> Result<Vec<String>, AllocError> {
     let mut list = Vec::new(alloc);
     for word in words {
-        list.push(String::from_str(alloc, word)?)?;
+        list.push(String::from_str(alloc, *word)?)?;
     }
     Ok(list)
 }
 
-// Each row has the words, the numbers of the fetch and of the put that fail, from 1, and then the
-// status and the text.
+// The status that these words end with.
+fn status_of<R: Room, K: Sink>(
+    alloc: Global,
+    words: &[&str],
+    room: &mut R,
+    out: &mut K,
+) -> Result<u8, AllocError> {
+    let words = word_list(alloc, words)?;
+    Ok(run(alloc, words.as_slice(), room, out))
+}
+
+// Words, the numbers of the fetch and of the put that fail, from 1, and then the status and the text.
+struct Call {
+    words: &'static [&'static str],
+    fetch: u32,
+    put: u32,
+    status: u8,
+    text: &'static [u8],
+}
+
+static CALLS: [Call; 19] = [
+    Call {
+        words: &[],
+        fetch: 0,
+        put: 0,
+        status: 8,
+        text: b"usage: check NAME\n",
+    },
+    Call {
+        words: &["check"],
+        fetch: 0,
+        put: 0,
+        status: 8,
+        text: b"usage: check NAME\n",
+    },
+    Call {
+        words: &["check", "full", "big"],
+        fetch: 0,
+        put: 0,
+        status: 8,
+        text: b"usage: check NAME\n",
+    },
+    Call {
+        words: &["Check", "full"],
+        fetch: 0,
+        put: 0,
+        status: 8,
+        text: b"usage: check NAME\n",
+    },
+    Call {
+        words: &["check", ""],
+        fetch: 0,
+        put: 0,
+        status: 8,
+        text: b"usage: check NAME\n",
+    },
+    Call {
+        words: &[],
+        fetch: 0,
+        put: 1,
+        status: 7,
+        text: b"",
+    },
+    Call {
+        words: &["check", "r21"],
+        fetch: 0,
+        put: 0,
+        status: 0,
+        text: b"accepted 5\n",
+    },
+    Call {
+        words: &["check", "r21b"],
+        fetch: 0,
+        put: 0,
+        status: 1,
+        text: b"rejected 4 local 1.1\n",
+    },
+    Call {
+        words: &["check", "r3"],
+        fetch: 0,
+        put: 0,
+        status: 0,
+        text: b"accepted 3\n",
+    },
+    Call {
+        words: &["check", "full"],
+        fetch: 0,
+        put: 0,
+        status: 0,
+        text: b"accepted 3\n",
+    },
+    Call {
+        words: &["check", "blank"],
+        fetch: 0,
+        put: 0,
+        status: 3,
+        text: b"refused 1048576 unexpected\n",
+    },
+    Call {
+        words: &["check", "empty"],
+        fetch: 0,
+        put: 0,
+        status: 3,
+        text: b"refused 0 unexpected\n",
+    },
+    Call {
+        words: &["check", "gone"],
+        fetch: 0,
+        put: 0,
+        status: 6,
+        text: b"",
+    },
+    Call {
+        words: &["check", "gone"],
+        fetch: 0,
+        put: 1,
+        status: 6,
+        text: b"",
+    },
+    Call {
+        words: &["check", "r21"],
+        fetch: 1,
+        put: 0,
+        status: 6,
+        text: b"",
+    },
+    Call {
+        words: &["check", "r21"],
+        fetch: 2,
+        put: 2,
+        status: 0,
+        text: b"accepted 5\n",
+    },
+    Call {
+        words: &["check", "r21"],
+        fetch: 0,
+        put: 1,
+        status: 7,
+        text: b"",
+    },
+    Call {
+        words: &["check", "big"],
+        fetch: 0,
+        put: 0,
+        status: 10,
+        text: b"too long big\n",
+    },
+    Call {
+        words: &["check", "big"],
+        fetch: 0,
+        put: 1,
+        status: 7,
+        text: b"",
+    },
+];
+
+// Passes where a call over the files ends as it should.
+fn is_answered(alloc: Global, call: &'static Call) -> Result<(), Fail> {
+    let mut room = MemoryRoom::make(files(alloc)?, vec![in alloc; call.fetch]?);
+    let mut out = MemorySink::make(alloc, vec![in alloc; call.put]?);
+    let status = status_of(alloc, call.words, &mut room, &mut out)?;
+    agree((status, out.bytes()), (call.status, call.text), call.text)
+}
+
 #[test]
 fn memory_calls(rt: HostRuntime) -> Result<(), Fail> {
-    for (words, fetch, put, status, text) in [
-        ([].as_slice(), 0, 0, 8, "usage: check NAME\n"),
-        (["check"].as_slice(), 0, 0, 8, "usage: check NAME\n"),
-        (
-            ["check", "full", "big"].as_slice(),
-            0,
-            0,
-            8,
-            "usage: check NAME\n",
-        ),
-        (["Check", "full"].as_slice(), 0, 0, 8, "usage: check NAME\n"),
-        (["check", ""].as_slice(), 0, 0, 8, "usage: check NAME\n"),
-        ([].as_slice(), 0, 1, 7, ""),
-        (["check", "r21"].as_slice(), 0, 0, 0, "accepted 5\n"),
-        (
-            ["check", "r21b"].as_slice(),
-            0,
-            0,
-            1,
-            "rejected 4 local 1.1\n",
-        ),
-        (["check", "r3"].as_slice(), 0, 0, 0, "accepted 3\n"),
-        (["check", "full"].as_slice(), 0, 0, 0, "accepted 3\n"),
-        (
-            ["check", "blank"].as_slice(),
-            0,
-            0,
-            3,
-            "refused 1048576 unexpected\n",
-        ),
-        (
-            ["check", "empty"].as_slice(),
-            0,
-            0,
-            3,
-            "refused 0 unexpected\n",
-        ),
-        (["check", "gone"].as_slice(), 0, 0, 6, ""),
-        (["check", "gone"].as_slice(), 0, 1, 6, ""),
-        (["check", "r21"].as_slice(), 1, 0, 6, ""),
-        (["check", "r21"].as_slice(), 2, 2, 0, "accepted 5\n"),
-        (["check", "r21"].as_slice(), 0, 1, 7, ""),
-        (["check", "big"].as_slice(), 0, 0, 10, "too long big\n"),
-        (["check", "big"].as_slice(), 0, 1, 7, ""),
-    ] {
-        let words = word_list(rt.alloc(), words)?;
-        let mut room = MemoryRoom::make(files(rt.alloc())?, vec![in rt.alloc(); fetch]?);
-        let mut out = MemorySink::make(rt.alloc(), vec![in rt.alloc(); put]?);
-        let answered = run(rt.alloc(), words.as_slice(), &mut room, &mut out);
-        assert_eq!(rt; answered, status, "{words:?}");
-        assert_eq!(rt; out.bytes(), text.as_bytes(), "{words:?}");
+    for call in &CALLS {
+        is_answered(rt.alloc(), call)?;
     }
     Ok(())
 }
 
-// In a quiet room a name that is not listed is an empty file.
-#[test]
-fn quiet_calls(rt: HostRuntime) -> Result<(), Fail> {
-    for (words, status, text) in [
-        (["check"].as_slice(), 8, "usage: check NAME\n"),
-        (["check", "r21"].as_slice(), 0, "accepted 5\n"),
-        (["check", "gone"].as_slice(), 3, "refused 0 unexpected\n"),
-        (["check", "big"].as_slice(), 10, "too long big\n"),
-    ] {
-        let words = word_list(rt.alloc(), words)?;
-        let mut room = QuietRoom::make(files(rt.alloc())?);
-        let mut out = QuietSink::make(rt.alloc());
-        let answered = run(rt.alloc(), words.as_slice(), &mut room, &mut out);
-        assert_eq!(rt; answered, status, "{words:?}");
-        assert_eq!(rt; out.bytes(), text.as_bytes(), "{words:?}");
-    }
-    Ok(())
+// A room with one file of these bytes.
+fn room_of(alloc: Global, bytes: &[u8]) -> Result<QuietRoom, AllocError> {
+    let name = String::from_str(alloc, "o")?;
+    let bytes = Vec::from_slice(alloc, bytes)?;
+    Ok(QuietRoom::make(vec![in alloc; (name, bytes)]?))
 }
 
-// The status and the text of `check` on a file of these bytes.
-fn checked(alloc: Global, bytes: &[u8]) -> Result<(u8, Vec<u8>), AllocError> {
-    let words = word_list(alloc, ["check", "o"].as_slice())?;
-    let mut files = Vec::new(alloc);
-    files.push((
-        String::from_str(alloc, "o")?,
-        Vec::from_slice(alloc, bytes)?,
-    ))?;
-    let mut room = QuietRoom::make(files);
+// Puts the text of `check` on a file of these bytes, and gives the status.
+fn checked(alloc: Global, bytes: &[u8], out: &mut QuietSink) -> Result<u8, AllocError> {
+    let mut room = room_of(alloc, bytes)?;
+    status_of(alloc, &["check", "o"], &mut room, out)
+}
+
+// Passes where a file of these bytes is refused with this line, without its newline.
+fn is_refused(alloc: Global, bytes: &[u8], line: &[u8]) -> Result<(), Fail> {
     let mut out = QuietSink::make(alloc);
-    let status = run(alloc, words.as_slice(), &mut room, &mut out);
-    Ok((status, Vec::from_slice(alloc, out.bytes())?))
+    let status = checked(alloc, bytes, &mut out)?;
+    agree(
+        (status, out.bytes().strip_suffix(b"\n")),
+        (3, Some(line)),
+        line,
+    )
+}
+
+// Passes where a file of these bytes is refused, and it is told whether it was read whole.
+fn is_read(alloc: Global, bytes: &[u8], wanted: bool) -> Result<(), Fail> {
+    let mut out = QuietSink::make(alloc);
+    let status = checked(alloc, bytes, &mut out)?;
+    agree((status, is_no_fault(out.bytes())), (3, wanted), bytes)
 }
 
 // The answer is not a fault of the file.
-fn is_read(text: &[u8]) -> bool {
+fn is_no_fault(text: &[u8]) -> bool {
     !text.starts_with(b"refused ") || text == b"refused not yet\n".as_slice()
 }
 
-// The file is refused with this line.
-fn is_refused(alloc: Global, bytes: &[u8], line: &str) -> bool {
-    match checked(alloc, bytes) {
-        Ok((status, text)) => status == 3 && text.strip_suffix(b"\n") == Some(line.as_bytes()),
-        Err(_) => false,
-    }
-}
+// A file and the line that it is refused with. Each has a fault of its text, then of its program,
+// then of its formulas, or has not the first form.
+static REFUSED: [(&[u8], &[u8]); 27] = [
+    (b"", b"refused 0 unexpected"),
+    (
+        b"pierogi 9; values 2; thread 1 { [ true ] }",
+        b"refused version 9",
+    ),
+    (b"pierogi 2 B", b"refused version 2"),
+    (b"pierogi 1; values 2; \xff", b"refused 21 not ascii"),
+    (
+        b"pierogi 1; values 2; thread 1 { [ true",
+        b"refused 38 unexpected",
+    ),
+    (
+        b"pierogi 1; values 2; thread 1 { [true] } thread 1 { [true] }",
+        b"refused 48 unexpected",
+    ),
+    (
+        b"pierogi 1; values 2; location x = 0; thread 1 { [true] x := @; [true] }",
+        b"refused 60 bad character",
+    ),
+    (
+        b"pierogi 1; values 2; location x = 0; location x = 0; thread 1 { [true] }",
+        b"refused 46 redeclared",
+    ),
+    (
+        b"pierogi 1; values 2; location flush = 0; thread 1 { [true] }",
+        b"refused 30 unexpected",
+    ),
+    (
+        b"pierogi 1; values 2; register abcdefghijklmnopqrstuvwxyz0123456 of 1; thread 1 { [true] }",
+        b"refused 30 name too long",
+    ),
+    (
+        b"pierogi 1; values 2; location x = 4294967296; thread 1 { [true] }",
+        b"refused 34 number too large",
+    ),
+    (
+        b"pierogi 1; values 2; thread 1 { [true] y := 1; [true] }",
+        b"refused 39 unknown name",
+    ),
+    (
+        b"pierogi 1; values 2; pre a = 0; thread 1 { [true] }",
+        b"refused 25 unknown name",
+    ),
+    (
+        b"pierogi 1; values 2; crash true; pre true; thread 1 { [true] }",
+        b"refused 33 unexpected",
+    ),
+    (
+        b"pierogi 1; values 1; thread 1 { [true] }",
+        b"refused domain 1",
+    ),
+    (
+        b"pierogi 1; values 2; register a of 2; thread 1 { [true] }",
+        b"refused unknown thread 2",
+    ),
+    (
+        b"pierogi 1; values 2; register a of 1; register b of 2; thread 1 { [true] a := b; [true] } thread 2 { [true] }",
+        b"refused foreign register b",
+    ),
+    (
+        b"pierogi 1; values 2; location x = 0; auxiliary e; thread 1 { [true] x := e; [true] }",
+        b"refused auxiliary e in program",
+    ),
+    (
+        b"pierogi 1; values 2; location x = 0; auxiliary e; thread 1 { [true] x := 1 < e := 1, e := 0 >; [true] }",
+        b"refused auxiliary e twice",
+    ),
+    (
+        b"pierogi 1; values 2; location x = 0; thread 1 { [true] x := 1 + 3; [true] }",
+        b"refused value 3",
+    ),
+    (
+        b"pierogi 1; values 2; register a of 1; register b of 1; register c of 1; register d of 1; register e of 1; thread 1 { [true] mfence; [true] while a + b = c + d * e { } [true] }",
+        b"refused expression 1.2",
+    ),
+    (
+        b"pierogi 1; values 2; location x = 0; pre P(x,9) & N(9,x); thread 1 { [true] }",
+        b"refused value 9",
+    ),
+    (
+        b"pierogi 1; values 2; location x = 0; pre R(9,x,9); thread 1 { [true] }",
+        b"refused unknown thread 9",
+    ),
+    (
+        b"pierogi 1; values 2; location x = 0; crash x = 2; thread 1 { [N(0,x)] }",
+        b"refused value 2",
+    ),
+    (
+        b"pierogi 1; values 2; location a = 0; location b = 0; location c = 0; location d = 0; crash a = 0 | b = 0 | c = 0 | d = 0; thread 1 { [true] }",
+        b"refused crash locations 4",
+    ),
+    (
+        b"pierogi 1; values 4; location a = 0; location b = 0; location c = 0; location d = 0; location e = 0; location f = 0; thread 1 { [true] } thread 2 { [true] } thread 3 { [true] } thread 4 { [true] } ",
+        b"refused not yet",
+    ),
+    (
+        b"pierogi 1; values 2; location x = 0; auxiliary e; thread 1 { [true] x := 1 < e := 1 >; [e = 1] }",
+        b"refused not yet",
+    ),
+];
 
-// The file is read, whatever is said of it then.
-fn is_read_whole(alloc: Global, bytes: &[u8]) -> bool {
-    match checked(alloc, bytes) {
-        Ok((_, text)) => is_read(text.as_slice()),
-        Err(_) => false,
-    }
-}
-
-// Each file has a fault of its text, then of its program, then of its formulas, or has not the first form.
 #[test]
-fn files_are_refused(rt: HostRuntime) {
-    for (bytes, line) in [
-        (b"".as_slice(), "refused 0 unexpected"),
-        (
-            b"pierogi 9; values 2; thread 1 { [ true ] }".as_slice(),
-            "refused version 9",
-        ),
-        (b"pierogi 2 B".as_slice(), "refused version 2"),
-        (
-            b"pierogi 1; values 2; \xff".as_slice(),
-            "refused 21 not ascii",
-        ),
-        (
-            b"pierogi 1; values 2; thread 1 { [ true".as_slice(),
-            "refused 38 unexpected",
-        ),
-        (
-            b"pierogi 1; values 2; thread 1 { [true] } thread 1 { [true] }".as_slice(),
-            "refused 48 unexpected",
-        ),
-        (
-            b"pierogi 1; values 2; location x = 0; thread 1 { [true] x := @; [true] }".as_slice(),
-            "refused 60 bad character",
-        ),
-        (
-            b"pierogi 1; values 2; location x = 0; location x = 0; thread 1 { [true] }".as_slice(),
-            "refused 46 redeclared",
-        ),
-        (
-            b"pierogi 1; values 2; location flush = 0; thread 1 { [true] }".as_slice(),
-            "refused 30 unexpected",
-        ),
-        (
-            b"pierogi 1; values 2; register abcdefghijklmnopqrstuvwxyz0123456 of 1; thread 1 { [true] }".as_slice(),
-            "refused 30 name too long",
-        ),
-        (
-            b"pierogi 1; values 2; location x = 4294967296; thread 1 { [true] }".as_slice(),
-            "refused 34 number too large",
-        ),
-        (
-            b"pierogi 1; values 2; thread 1 { [true] y := 1; [true] }".as_slice(),
-            "refused 39 unknown name",
-        ),
-        (
-            b"pierogi 1; values 2; pre a = 0; thread 1 { [true] }".as_slice(),
-            "refused 25 unknown name",
-        ),
-        (
-            b"pierogi 1; values 2; crash true; pre true; thread 1 { [true] }".as_slice(),
-            "refused 33 unexpected",
-        ),
-        (
-            b"pierogi 1; values 1; thread 1 { [true] }".as_slice(),
-            "refused domain 1",
-        ),
-        (
-            b"pierogi 1; values 2; register a of 2; thread 1 { [true] }".as_slice(),
-            "refused unknown thread 2",
-        ),
-        (
-            b"pierogi 1; values 2; register a of 1; register b of 2; thread 1 { [true] a := b; [true] } thread 2 { [true] }".as_slice(),
-            "refused foreign register b",
-        ),
-        (
-            b"pierogi 1; values 2; location x = 0; auxiliary e; thread 1 { [true] x := e; [true] }".as_slice(),
-            "refused auxiliary e in program",
-        ),
-        (
-            b"pierogi 1; values 2; location x = 0; auxiliary e; thread 1 { [true] x := 1 < e := 1, e := 0 >; [true] }".as_slice(),
-            "refused auxiliary e twice",
-        ),
-        (
-            b"pierogi 1; values 2; location x = 0; thread 1 { [true] x := 1 + 3; [true] }".as_slice(),
-            "refused value 3",
-        ),
-        (
-            b"pierogi 1; values 2; register a of 1; register b of 1; register c of 1; register d of 1; register e of 1; thread 1 { [true] mfence; [true] while a + b = c + d * e { } [true] }".as_slice(),
-            "refused expression 1.2",
-        ),
-        (
-            b"pierogi 1; values 2; location x = 0; pre P(x,9) & N(9,x); thread 1 { [true] }".as_slice(),
-            "refused value 9",
-        ),
-        (
-            b"pierogi 1; values 2; location x = 0; pre R(9,x,9); thread 1 { [true] }".as_slice(),
-            "refused unknown thread 9",
-        ),
-        (
-            b"pierogi 1; values 2; location x = 0; crash x = 2; thread 1 { [N(0,x)] }".as_slice(),
-            "refused value 2",
-        ),
-        (
-            b"pierogi 1; values 2; location a = 0; location b = 0; location c = 0; location d = 0; crash a = 0 | b = 0 | c = 0 | d = 0; thread 1 { [true] }".as_slice(),
-            "refused crash locations 4",
-        ),
-        (
-            b"pierogi 1; values 4; location a = 0; location b = 0; location c = 0; location d = 0; location e = 0; location f = 0; thread 1 { [true] } thread 2 { [true] } thread 3 { [true] } thread 4 { [true] } ".as_slice(),
-            "refused not yet",
-        ),
-        (
-            b"pierogi 1; values 2; location x = 0; auxiliary e; thread 1 { [true] x := 1 < e := 1 >; [e = 1] }".as_slice(),
-            "refused not yet",
-        ),
-    ] {
-        assert!(rt; is_refused(rt.alloc(), bytes, line), "{line}");
+fn files_are_refused(rt: HostRuntime) -> Result<(), Fail> {
+    for (bytes, line) in &REFUSED {
+        is_refused(rt.alloc(), *bytes, *line)?;
     }
+    Ok(())
 }
+
+const WHOLE: &[u8] =
+    b"pierogi 1; values 2; location x = 0; location y = 0;\npre !P(y,1); crash y = 1 -> x = 1;\n\
+    thread 1 { [!P(y,1)] x := 1; [!P(y,1) & L(x,1) & F(1,x)] flush x;\n  [!P(x,0)] y := 1; [!P(x,0)] }\n";
 
 // Of an outline that is read whole no part is, but for one without the last newline.
 #[test]
 fn prefixes_are_refused(rt: HostRuntime) -> Result<(), Fail> {
-    let whole =
-        b"pierogi 1; values 2; location x = 0; location y = 0;\npre !P(y,1); crash y = 1 -> x = 1;\n\
-        thread 1 { [!P(y,1)] x := 1; [!P(y,1) & L(x,1) & F(1,x)] flush x;\n  [!P(x,0)] y := 1; [!P(x,0)] }\n"
-            .as_slice();
-    for n in 0..whole.len() + 1 {
-        let (status, text) = checked(rt.alloc(), &whole[..n])?;
-        assert_eq!(rt; status, 3, "{n}");
-        assert_eq!(rt; is_read(text.as_slice()), n + 1 >= whole.len(), "{n}");
+    for n in 0..WHOLE.len() + 1 {
+        is_read(rt.alloc(), &WHOLE[..n], n + 1 >= WHOLE.len())?;
     }
     Ok(())
 }
 
-// `front`, then `open` n times, `middle`, `close` n times, and `back`.
-fn repeated(
-    alloc: Global,
-    (front, open, middle, close, back): (&str, &str, &str, &str, &str),
-    n: u32,
-) -> Result<String, AllocError> {
-    let mut text = String::from_str(alloc, front)?;
-    for _ in 0..n {
-        text.push_str(open)?;
+// The parts of a text: `front`, then `open` n times, `middle`, `close` n times, and `back`. With `most`
+// repetitions it is read, and with one more it is refused with the line.
+struct Limit {
+    front: &'static [u8],
+    open: &'static [u8],
+    most: u32,
+    middle: &'static [u8],
+    close: &'static [u8],
+    back: &'static [u8],
+    line: &'static [u8],
+}
+
+static LIMITS: [Limit; 13] = [
+    Limit {
+        front: b"pierogi 1; values 2; location a = 0; location b = 0; location c = 0; location d = 0; location e = 0; location f = 0; ",
+        open: b"location g = 0; ",
+        most: 0,
+        middle: b"",
+        close: b"",
+        back: b"thread 1 { [true] }",
+        line: b"refused 126 too many",
+    },
+    Limit {
+        front: b"pierogi 1; values 2; auxiliary a; auxiliary b; auxiliary c; auxiliary d; auxiliary e; auxiliary f; auxiliary g; auxiliary h; auxiliary i; auxiliary j; auxiliary k; auxiliary l; auxiliary m; auxiliary n; auxiliary o; auxiliary p; ",
+        open: b"auxiliary q; ",
+        most: 0,
+        middle: b"",
+        close: b"",
+        back: b"thread 1 { [true] }",
+        line: b"refused 239 too many",
+    },
+    Limit {
+        front: b"pierogi 1; values 2; thread 1 { [true] } thread 2 { [true] } thread 3 { [true] } thread 4 { [true] } ",
+        open: b"thread 5 { [true] } ",
+        most: 0,
+        middle: b"",
+        close: b"",
+        back: b"",
+        line: b"refused 101 too many",
+    },
+    Limit {
+        front: b"pierogi 1; values 2; auxiliary ",
+        open: b"a",
+        most: 32,
+        middle: b"",
+        close: b"",
+        back: b"; thread 1 { [true] }",
+        line: b"refused 31 name too long",
+    },
+    Limit {
+        front: b"pierogi 1; values 2; location x = 0; thread 1 { ",
+        open: b"[true] x := 1; ",
+        most: 31,
+        middle: b"[true] }",
+        close: b"",
+        back: b"",
+        line: b"refused 528 too many",
+    },
+    Limit {
+        front: b"pierogi 1; values 2; thread 1 { ",
+        open: b"[true] while 0 = 1 { ",
+        most: 16,
+        middle: b"",
+        close: b"} ",
+        back: b"[true] }",
+        line: b"refused 387 too deep",
+    },
+    Limit {
+        front: b"pierogi 1; values 2; location x = 0; auxiliary a; auxiliary b; auxiliary c; auxiliary d; auxiliary e; thread 1 { [true] x := 1 < a := 1, b := 1, c := 1, d := 1",
+        open: b", e := 1",
+        most: 0,
+        middle: b"",
+        close: b"",
+        back: b">; [true] }",
+        line: b"refused 161 too many",
+    },
+    Limit {
+        front: b"pierogi 1; values 2; pre !false",
+        open: b" | !false",
+        most: 170,
+        middle: b"",
+        close: b"",
+        back: b"; thread 1 { [true] }",
+        line: b"refused 1562 too many",
+    },
+    Limit {
+        front: b"pierogi 1; values 4; location a = 0; location b = 0; location c = 0; crash a = 0 | b = 0 | c = 0",
+        open: b" | c = 0",
+        most: 58,
+        middle: b"",
+        close: b"",
+        back: b"; thread 1 { [true] }",
+        line: b"refused crash nodes 8319",
+    },
+    Limit {
+        front: b"pierogi 1; values 2; pre ",
+        open: b"(",
+        most: 32,
+        middle: b"true",
+        close: b")",
+        back: b"; thread 1 { [true] }",
+        line: b"refused 57 too deep",
+    },
+    Limit {
+        front: b"pierogi 1; values 2; pre ",
+        open: b"!",
+        most: 32,
+        middle: b"true",
+        close: b"",
+        back: b"; thread 1 { [true] }",
+        line: b"refused 57 too deep",
+    },
+    Limit {
+        front: b"pierogi 1; values 2; location x = 0; thread 1 { [true] x := 1",
+        open: b" + 1",
+        most: 15,
+        middle: b"",
+        close: b"",
+        back: b"; [true] }",
+        line: b"refused 124 too many",
+    },
+    Limit {
+        front: b"pierogi 1; values 2; location x = 0; thread 1 { [true] x := ",
+        open: b"(",
+        most: 32,
+        middle: b"1",
+        close: b")",
+        back: b"; [true] }",
+        line: b"refused 92 too deep",
+    },
+];
+
+// Appends a piece so many times.
+fn append(text: &mut Vec<u8>, times: u32, piece: &[u8]) -> Result<(), AllocError> {
+    for _i in 0..times {
+        text.extend_from_slice(piece)?;
     }
-    text.push_str(middle)?;
-    for _ in 0..n {
-        text.push_str(close)?;
-    }
-    text.push_str(back)?;
+    Ok(())
+}
+
+// Appends the text with so many repetitions.
+fn append_parts(text: &mut Vec<u8>, limit: &'static Limit, times: u32) -> Result<(), AllocError> {
+    append(text, 1, limit.front)?;
+    append(text, times, limit.open)?;
+    append(text, 1, limit.middle)?;
+    append(text, times, limit.close)?;
+    append(text, 1, limit.back)
+}
+
+// The text with so many repetitions.
+fn repeated(alloc: Global, limit: &'static Limit, times: u32) -> Result<Vec<u8>, AllocError> {
+    let mut text = Vec::new(alloc);
+    append_parts(&mut text, limit, times)?;
     Ok(text)
 }
 
-// With n repetitions the text is read, and with one more it is refused with this line.
-fn keeps_limit(alloc: Global, parts: (&str, &str, &str, &str, &str), n: u8, line: &str) -> bool {
-    let n = u32::from(n);
-    match (repeated(alloc, parts, n), repeated(alloc, parts, n + 1)) {
-        (Ok(at), Ok(above)) => {
-            is_read_whole(alloc, at.as_bytes()) && is_refused(alloc, above.as_bytes(), line)
-        }
-        _ => false,
-    }
+fn keeps_limit(alloc: Global, limit: &'static Limit) -> Result<(), Fail> {
+    is_short_enough(alloc, limit)?;
+    let text = repeated(alloc, limit, limit.most.saturating_add(1))?;
+    is_refused(alloc, &text, limit.line)
 }
 
-// Each row has the parts of a text, how often two of them may be repeated, and the line where it is once more.
+fn is_short_enough(alloc: Global, limit: &'static Limit) -> Result<(), Fail> {
+    let mut out = QuietSink::make(alloc);
+    let text = repeated(alloc, limit, limit.most)?;
+    checked(alloc, &text, &mut out)?;
+    agree(is_no_fault(out.bytes()), true, limit.line)
+}
+
 #[test]
-fn limits_are_kept(rt: HostRuntime) {
-    for (front, open, n, middle, close, back, line) in [
-        (
-            "pierogi 1; values 2; location a = 0; location b = 0; location c = 0; location d = 0; location e = 0; location f = 0; ",
-            "location g = 0; ",
-            0,
-            "",
-            "",
-            "thread 1 { [true] }",
-            "refused 126 too many",
-        ),
-        (
-            "pierogi 1; values 2; auxiliary a; auxiliary b; auxiliary c; auxiliary d; auxiliary e; auxiliary f; auxiliary g; auxiliary h; auxiliary i; auxiliary j; auxiliary k; auxiliary l; auxiliary m; auxiliary n; auxiliary o; auxiliary p; ",
-            "auxiliary q; ",
-            0,
-            "",
-            "",
-            "thread 1 { [true] }",
-            "refused 239 too many",
-        ),
-        (
-            "pierogi 1; values 2; thread 1 { [true] } thread 2 { [true] } thread 3 { [true] } thread 4 { [true] } ",
-            "thread 5 { [true] } ",
-            0,
-            "",
-            "",
-            "",
-            "refused 101 too many",
-        ),
-        (
-            "pierogi 1; values 2; auxiliary ",
-            "a",
-            32,
-            "",
-            "",
-            "; thread 1 { [true] }",
-            "refused 31 name too long",
-        ),
-        (
-            "pierogi 1; values 2; location x = 0; thread 1 { ",
-            "[true] x := 1; ",
-            31,
-            "[true] }",
-            "",
-            "",
-            "refused 528 too many",
-        ),
-        (
-            "pierogi 1; values 2; thread 1 { ",
-            "[true] while 0 = 1 { ",
-            16,
-            "",
-            "} ",
-            "[true] }",
-            "refused 387 too deep",
-        ),
-        (
-            "pierogi 1; values 2; location x = 0; auxiliary a; auxiliary b; auxiliary c; auxiliary d; auxiliary e; thread 1 { [true] x := 1 < a := 1, b := 1, c := 1, d := 1",
-            ", e := 1",
-            0,
-            "",
-            "",
-            ">; [true] }",
-            "refused 161 too many",
-        ),
-        (
-            "pierogi 1; values 2; pre !false",
-            " | !false",
-            170,
-            "",
-            "",
-            "; thread 1 { [true] }",
-            "refused 1562 too many",
-        ),
-        (
-            "pierogi 1; values 4; location a = 0; location b = 0; location c = 0; crash a = 0 | b = 0 | c = 0",
-            " | c = 0",
-            58,
-            "",
-            "",
-            "; thread 1 { [true] }",
-            "refused crash nodes 8319",
-        ),
-        (
-            "pierogi 1; values 2; pre ",
-            "(",
-            32,
-            "true",
-            ")",
-            "; thread 1 { [true] }",
-            "refused 57 too deep",
-        ),
-        (
-            "pierogi 1; values 2; pre ",
-            "!",
-            32,
-            "true",
-            "",
-            "; thread 1 { [true] }",
-            "refused 57 too deep",
-        ),
-        (
-            "pierogi 1; values 2; location x = 0; thread 1 { [true] x := 1",
-            " + 1",
-            15,
-            "",
-            "",
-            "; [true] }",
-            "refused 124 too many",
-        ),
-        (
-            "pierogi 1; values 2; location x = 0; thread 1 { [true] x := ",
-            "(",
-            32,
-            "1",
-            ")",
-            "; [true] }",
-            "refused 92 too deep",
-        ),
-    ] {
-        let parts = (front, open, middle, close, back);
-        assert!(rt; keeps_limit(rt.alloc(), parts, n, line), "{line}");
+fn limits_are_kept(rt: HostRuntime) -> Result<(), Fail> {
+    for limit in &LIMITS {
+        keeps_limit(rt.alloc(), limit)?;
     }
+    Ok(())
 }
 
-// The text, filled up with a byte as far as a file may go, is refused with this line.
-fn is_filled_refused(alloc: Global, front: &str, byte: u8, line: &str) -> bool {
-    match filled(alloc, front, byte) {
-        Ok(bytes) => is_refused(alloc, bytes.as_slice(), line),
-        Err(_) => false,
-    }
+// The beginning of a file as long as may be, the byte that all the rest of it is, and its line.
+static LONG: [(&[u8], u8, &[u8]); 10] = [
+    (b"", b'(', b"refused 0 unexpected"),
+    (b"", b'!', b"refused 0 unexpected"),
+    (b"", b'#', b"refused 1048576 unexpected"),
+    (b"", b'a', b"refused 0 name too long"),
+    (b"", b'1', b"refused 0 number too large"),
+    (b"pierogi 1; values 2; pre ", b'(', b"refused 57 too deep"),
+    (b"pierogi 1; values 2; pre ", b'!', b"refused 57 too deep"),
+    (
+        b"pierogi 1; values 2; pre ",
+        b'a',
+        b"refused 25 name too long",
+    ),
+    (
+        b"pierogi 1; values 2; pre a = ",
+        b'1',
+        b"refused 25 unknown name",
+    ),
+    (
+        b"pierogi 1; values 2; ",
+        b'#',
+        b"refused 1048576 unexpected",
+    ),
+];
+
+fn is_filled_refused(alloc: Global, front: &[u8], byte: u8, line: &[u8]) -> Result<(), Fail> {
+    let bytes = filled(alloc, front, 1_048_576, byte)?;
+    is_refused(alloc, &bytes, line)
 }
 
-fn filled(alloc: Global, front: &str, byte: u8) -> Result<Vec<u8>, AllocError> {
-    let mut bytes = Vec::from_slice(alloc, front.as_bytes())?;
-    bytes.resize(1_048_576, byte)?;
-    Ok(bytes)
-}
-
-// Files as long as may be, of one byte behind the text that they begin with.
 #[test]
-fn long_files_are_refused(rt: HostRuntime) {
-    for (front, byte, line) in [
-        ("", b'(', "refused 0 unexpected"),
-        ("", b'!', "refused 0 unexpected"),
-        ("", b'#', "refused 1048576 unexpected"),
-        ("", b'a', "refused 0 name too long"),
-        ("", b'1', "refused 0 number too large"),
-        ("pierogi 1; values 2; pre ", b'(', "refused 57 too deep"),
-        ("pierogi 1; values 2; pre ", b'!', "refused 57 too deep"),
-        (
-            "pierogi 1; values 2; pre ",
-            b'a',
-            "refused 25 name too long",
-        ),
-        (
-            "pierogi 1; values 2; pre a = ",
-            b'1',
-            "refused 25 unknown name",
-        ),
-        ("pierogi 1; values 2; ", b'#', "refused 1048576 unexpected"),
-    ] {
-        assert!(rt; is_filled_refused(rt.alloc(), front, byte, line), "{line}");
+fn long_files_are_refused(rt: HostRuntime) -> Result<(), Fail> {
+    for (front, byte, line) in &LONG {
+        is_filled_refused(rt.alloc(), *front, *byte, *line)?;
     }
+    Ok(())
 }

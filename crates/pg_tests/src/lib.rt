@@ -1,4 +1,4 @@
-//! Tests of the layers from the names of a program up to the judge of a path, in one crate, so that each layer below is proved
+//! Tests of the layers from rooms and tokens up to the judge of a path, in one crate, so that each layer below is proved
 //! once and not once more for its tests.
 //!
 //! A test is a table: a text, and what the layer answers, worked out by hand. Programs, assertions and outlines are written as

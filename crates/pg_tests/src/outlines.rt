@@ -1,9 +1,9 @@
 //! Texts of outlines, the first fault of each that is none, and what an outline gives back.
 
 use crate::programs::shown;
-use crate::texts::{Pieces, agree, between, on, repeated, told};
+use crate::texts::{Pieces, agree, between, fault_of, on, repeated};
 use pg_assertion::{Formula, ViewAtom};
-use pg_outline::erase;
+use pg_outline::{Outline, erase};
 use pg_program::NameRef;
 use std::alloc::{AllocError, Global};
 use std::test::Fail;
@@ -356,7 +356,7 @@ static PROGRAMS: [Refused; 22] = [
 
 /// Passes where the fault of a text, if it has one, is written so.
 fn is_told(alloc: Global, text: &[u8], fault: &str) -> Result<(), Fail> {
-    let found = told(alloc, text)?;
+    let found = fault_of(alloc, text)?;
     agree(found.as_str(), fault, text)
 }
 
@@ -498,19 +498,47 @@ fn expansions_have_a_limit(rt: HostRuntime) -> Result<(), Fail> {
     Ok(())
 }
 
-/// Brackets at a store, at a load and within a block.
-const MARKED: &[u8] =
-    b"pierogi 1; values 2; location x = 0; auxiliary e; register r of 1; auxiliary f; thread 1 { [e = 0] x := r < e := 1 >; [true] if r = 0 { [true] r := x < f := e, e := f >; } [f = 0] }";
+/// The body of a thread with brackets, and its statements and steps without them: every kind of statement has one.
+static MARKED: [(&[u8], &str); 4] = [
+    (
+        b"[e = 0] x := r < e := 1 >; [true] if r = 0 { [true] r := x < f := e, e := f >; } [f = 0]",
+        "s1.1>2 i1.2+3 1.2-4 r1.3>4 .",
+    ),
+    (
+        b"[true] flush x < e := 1 >; [true] flushopt x < e := 1 >; [true] mfence < e := 1 >; [true] sfence < e := 1 >; [true]",
+        "o1.1>2 o1.2>3 o1.3>4 o1.4>5 .",
+    ),
+    (
+        b"[true] r := cas(x, 0, 1) < e := 1 >; [true] r := 1 < e := r >; [true] x := 1 < e := 1 >; [true]",
+        "o1.1>2 o1.2>3 s1.3>4 .",
+    ),
+    (
+        b"[true] while r = 0 { [true] r := x < f := 1 >; } [true] if r = 0 { } else { [true] flush x < e := 1 >; } [true]",
+        "w1.1+2 1.1-3 r1.2>1 i1.3+5 1.3-4 o1.4>5 .",
+    ),
+];
+
+const BEFORE_MARKED: &[u8] =
+    b"pierogi 1; values 2; location x = 0; auxiliary e; register r of 1; auxiliary f; thread 1 { ";
+
+/// Passes where an outline without its auxiliaries has these statements and steps, and its register as its only scalar.
+fn is_erased(alloc: Global, o: &Outline, graph: &str) -> Result<(), Fail> {
+    let p = erase(alloc, o)?;
+    let found = shown(alloc, &p)?;
+    agree(found.as_str().trim_end(), graph, graph.as_bytes())?;
+    agree(
+        p.names().find("r"),
+        Some(NameRef::Scalar(0)),
+        graph.as_bytes(),
+    )
+}
 
 #[test]
 fn auxiliaries_are_erased(rt: HostRuntime) -> Result<(), Fail> {
     let alloc = rt.alloc();
-    let p = on(alloc, MARKED, |o| Ok(erase(alloc, o)?))?;
-    let found = shown(alloc, &p)?;
-    agree(
-        found.as_str().trim_end(),
-        "s1.1>2 i1.2+3 1.2-4 r1.3>4 .",
-        MARKED,
-    )?;
-    agree(p.names().find("r"), Some(NameRef::Scalar(0)), MARKED)
+    for (body, graph) in &MARKED {
+        let text = between(alloc, BEFORE_MARKED, *body, b" }")?;
+        on(alloc, &text, |o| is_erased(alloc, o, *graph))?;
+    }
+    Ok(())
 }

@@ -12,7 +12,7 @@ struct Case {
     judged: &'static str,
 }
 
-static CASES: [Case; 29] = [
+static CASES: [Case; 31] = [
     // Threads without a statement.
     Case {
         pieces: &[(1, b"pierogi 1; values 2; thread 1 { [true] }")],
@@ -88,6 +88,21 @@ static CASES: [Case; 29] = [
             b"pierogi 1; values 2; location x = 0; pre true; thread 1 { [L(x,0)] x := 1; [L(x,1)] }",
         )],
         judged: "rejected 2",
+    },
+    // Five locations, and six of four values each, which have 4,096 valuations.
+    Case {
+        pieces: &[(
+            1,
+            b"pierogi 1; values 2; location v = 0; location w = 0; location x = 0; location y = 0; location z = 1; pre L(v,0) & L(z,1); thread 1 { [L(z,1)] v := 1; [L(v,1) & L(z,1)] }",
+        )],
+        judged: "accepted 5",
+    },
+    Case {
+        pieces: &[(
+            1,
+            b"pierogi 1; values 4; location u = 0; location v = 0; location w = 0; location x = 0; location y = 0; location z = 3; pre L(z,3); thread 1 { [L(z,3)] u := 2; [L(u,2) & !L(z,2)] z := 2; [L(u,2) & L(z,3)] }",
+        )],
+        judged: "rejected 6",
     },
     // Conjunctions that are of the form, and that are not.
     Case {

@@ -84,7 +84,7 @@ pub fn on<T, F: FnOnce(&Outline) -> Result<T, Fail> + Drop>(
 }
 
 /// The fault of a text as it is written, with the point of an expression, or nothing where the text has none.
-pub fn told(alloc: Global, text: &[u8]) -> Result<String, Fail> {
+pub fn fault_of(alloc: Global, text: &[u8]) -> Result<String, Fail> {
     match read(alloc, text)? {
         Ok(_) => Ok(String::new(alloc)),
         Err(fault) => Ok(written(alloc, &fault)?),
