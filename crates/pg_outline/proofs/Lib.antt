@@ -1,6 +1,7 @@
 mod Rows
 mod CrashSize
 pub mod Parts
+pub mod Speaks
 pub mod EraseNames
 pub mod EraseStmts
 pub mod EraseClauses

@@ -31,21 +31,21 @@ pub record Counts (d n : ℕ) (o : Draft) : Type 0 where
   pub domain : d ≡ o.program.names.domain
   pub threads : n ≡ length o.program.threads
 
--- the first fault is that of the parts, one behind the other
+-- the first fault is that of the parts, one after the other
 parted : (d n : ℕ) (o : Draft) → Counts d n o → first_fault o ≡ first_of (first_of (pre_fault d n o) (first_of (crash_fault d o) (notes_fault d n o))) (expansion_fault o)
 parted d n o c = rw (c.domain, c.threads) refl
 
-pub pre_told : (d n : ℕ) (o : Draft) (e : OutlineFault) → Counts d n o → pre_fault d n o ≡ Some e → first_fault o ≡ Some e
-pre_told d n o e c h = parted d n o c ∙ rw h refl
+pub pre_first : (d n : ℕ) (o : Draft) (e : OutlineFault) → Counts d n o → pre_fault d n o ≡ Some e → first_fault o ≡ Some e
+pre_first d n o e c h = parted d n o c ∙ rw h refl
 
-pub crash_told : (d n : ℕ) (o : Draft) (e : OutlineFault) → Counts d n o → pre_fault d n o ≡ None → crash_fault d o ≡ Some e → first_fault o ≡ Some e
-crash_told d n o e c p h = parted d n o c ∙ rw (p, h) refl
+pub crash_first : (d n : ℕ) (o : Draft) (e : OutlineFault) → Counts d n o → pre_fault d n o ≡ None → crash_fault d o ≡ Some e → first_fault o ≡ Some e
+crash_first d n o e c p h = parted d n o c ∙ rw (p, h) refl
 
-pub notes_told : (d n : ℕ) (o : Draft) (e : OutlineFault) → Counts d n o → pre_fault d n o ≡ None → crash_fault d o ≡ None → notes_fault d n o ≡ Some e → first_fault o ≡ Some e
-notes_told d n o e c p q h = parted d n o c ∙ rw (p, q, h) refl
+pub notes_first : (d n : ℕ) (o : Draft) (e : OutlineFault) → Counts d n o → pre_fault d n o ≡ None → crash_fault d o ≡ None → notes_fault d n o ≡ Some e → first_fault o ≡ Some e
+notes_first d n o e c p q h = parted d n o c ∙ rw (p, q, h) refl
 
-pub expansion_told : (d n : ℕ) (o : Draft) (f : Fault) → Counts d n o → pre_fault d n o ≡ None → crash_fault d o ≡ None → notes_fault d n o ≡ None → expansion_fault o ≡ f → first_fault o ≡ f
-expansion_told d n o f c p q r h = parted d n o c ∙ rw (p, q, r) h
+pub expansion_first : (d n : ℕ) (o : Draft) (f : Fault) → Counts d n o → pre_fault d n o ≡ None → crash_fault d o ≡ None → notes_fault d n o ≡ None → expansion_fault o ≡ f → first_fault o ≡ f
+expansion_first d n o f c p q r h = parted d n o c ∙ rw (p, q, r) h
 
 -- ---- a crash formula whose values are in the domain
 

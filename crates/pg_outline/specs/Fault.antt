@@ -1,7 +1,6 @@
--- The faults of an outline's formulas. Those of values and threads are told in the order of the text: the precondition, the
+-- The faults of an outline's formulas. Those of values and threads come in the order of the text: the precondition, the
 -- crash formula, and the assertions of each thread.
 use Rattle.std.specs.Prelude.{ℕ, ◌&&◌, nat_le, nat_lt, if◌then◌else◌, List, [], ◌∷◌, length, Option, Some, None}
-use Rattle.pg_assertion.specs.declared.expansion.TheConstants.{MAX_EXPANSION_NODES}
 use Rattle.pg_assertion.specs.declared.atom.RawAtom.{RawAtom}
 use Rattle.pg_assertion.specs.declared.atom.RawAtom.TheVariants as raw
 use Rattle.pg_assertion.specs.declared.atom.CrashAtom.{CrashAtom}
@@ -11,7 +10,7 @@ use Rattle.pg_assertion.specs.Expansion.{named, expansion}
 use Rattle.pg_program.specs.NameTable.{NameTable}
 use Rattle.pg_outline.specs.declared.fault.OutlineFault.{OutlineFault}
 use Rattle.pg_outline.specs.declared.fault.OutlineFault.TheVariants.{ValueOutOfDomain, UnknownThread, CrashLocations, CrashNodes}
-use Rattle.pg_outline.specs.declared.outline.TheConstants.{MAX_CRASH_LOCATIONS}
+use Rattle.pg_outline.specs.Limits.{most_crash_locations, most_expansion_nodes}
 use Rattle.pg_outline.specs.Outline.{Draft}
 
 -- ---- the first of several
@@ -74,17 +73,17 @@ numbers_fault d n o =
     (first_of (in_formula (crash_atom_fault d) o.crash)
     (first_in (first_in (in_formula (atom_fault d n))) o.notes))
 
--- the crash formula names at most three locations
+-- how many locations the crash formula names
 abbrev pub locations_fault : NameTable → Plain CrashAtom → Fault
 locations_fault names f =
     let k = length (named (length names.locations) f) in
-    if nat_le k MAX_CRASH_LOCATIONS then None else Some (CrashLocations k)
+    if nat_le k most_crash_locations then None else Some (CrashLocations k)
 
--- its expansion has at most 8,192 nodes
+-- how many nodes its expansion has
 abbrev pub size_fault : NameTable → Plain CrashAtom → Fault
 size_fault names f =
     let n = nodes (expansion names f) in
-    if nat_le n MAX_EXPANSION_NODES then None else Some (CrashNodes n)
+    if nat_le n most_expansion_nodes then None else Some (CrashNodes n)
 
 -- the first fault
 abbrev pub first_fault : Draft → Fault

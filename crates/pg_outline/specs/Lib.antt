@@ -1,5 +1,7 @@
 pub mod Codes
+pub mod Limits
 pub mod Outline
+pub mod Speaks
 pub mod Fault
 pub mod Made
 pub mod Parts

@@ -5,7 +5,7 @@ use Rattle.pg_outline.specs.declared.fault.OutlineFault.TheVariants.{NoMemory}
 use Rattle.pg_outline.specs.Outline.{OutlineTable, IsDraft, draft_of}
 use Rattle.pg_outline.specs.Fault.{Fault, first_fault}
 
--- what is made of a part is that part, where it has no fault; and else its first fault is told, unless memory runs out
+-- what is made of a part is that part, where it has no fault; and else its first fault is answered, unless memory runs out
 abbrev pub Makes : {V R : Type 0} → (V → R) → R → Fault → Result V OutlineFault → Type 0
 Makes part r fault (Ok v) = (part v ≡ r) × (fault ≡ None)
 Makes part r fault (Err e) = e ≢ NoMemory → fault ≡ Some e

@@ -4,7 +4,7 @@ use std::alloc::{AllocError, AllocFailed};
 use thiserror::Error;
 
 /// Why no outline is made of a program and its formulas. Of several faults the first one is given: values and threads in the
-/// order of the text, and behind them what the expansion of the crash formula needs.
+/// order of the text, and after them what the expansion of the crash formula needs.
 #[derive(Clone, Copy, Debug, PartialEq, Eq, Error)]
 pub enum OutlineFault {
     /// A value in an atom.

@@ -1,12 +1,13 @@
 //! Outlines that were built.
 
-ghost use Rattle.std.specs.Prelude.{◌≡◌, ◌-◌, ◌≤◌, [], length, map, slice_index_or};
+ghost use Rattle.std.specs.Prelude.{◌≡◌, ◌-◌, ◌≤◌, All, [], length, map, slice_index_or};
 ghost use Rattle.pg_assertion.specs.Formula.{plain, AllAtoms};
 ghost use Rattle.pg_assertion.specs.Expansion.{expansion, IsAtomOf};
 ghost use Rattle.pg_program.specs.Program.{points, IsProgram};
 ghost use Rattle.pg_assertion.specs.Atom.{CrashDeclared};
 ghost use Rattle.pg_outline.specs.Outline.{Draft, IsSmall};
 ghost use Rattle.pg_outline.specs.Parts.{AreParts};
+ghost use Rattle.pg_outline.specs.Speaks.{IsOver, IsCrashOver};
 ghost use Rattle.pg_outline.specs.Fault.{first_of, locations_fault, size_fault};
 ghost use Rattle.pg_outline.specs.Made.{Makes};
 
@@ -90,21 +91,24 @@ impl Outline {
 
     /// The precondition.
     pub fn pre(&self) -> &Formula<ViewAtom>
-        ensures { plain result.now ≡ self.now.pre }
+        ensures formula { plain result.now ≡ self.now.pre }
+        ensures speaks { IsOver self.now.program (plain result.now) }
     {
         &self.pre
     }
 
     /// The crash formula.
     pub fn crash(&self) -> &Formula<CrashAtom>
-        ensures { plain result.now ≡ self.now.crash }
+        ensures formula { plain result.now ≡ self.now.crash }
+        ensures speaks { IsCrashOver self.now.program (plain result.now) }
     {
         &self.crash
     }
 
     /// The expansion of the crash formula.
     pub fn crash_expanded(&self) -> &Formula<ViewAtom>
-        ensures { plain result.now ≡ expansion self.now.program.names self.now.crash }
+        ensures formula { plain result.now ≡ expansion self.now.program.names self.now.crash }
+        ensures speaks { IsOver self.now.program (plain result.now) }
     {
         &self.expanded
     }
@@ -113,7 +117,8 @@ impl Outline {
     pub fn note(&self, at: PointId) -> &Formula<ViewAtom>
         requires thread { (1 ≤ at.thread) × (at.thread ≤ length self.now.program.threads) }
         requires point { (1 ≤ at.point) × (at.point ≤ points self.now.program at.thread) }
-        ensures { plain result.now ≡ note_at self.now at.thread at.point }
+        ensures formula { plain result.now ≡ note_at self.now at.thread at.point }
+        ensures speaks { IsOver self.now.program (plain result.now) }
     {
         &self.thread_notes(at.thread)[usize::from(at.point) - 1]
     }
@@ -123,6 +128,7 @@ impl Outline {
         requires { (1 ≤ thread) × (thread ≤ length self.now.program.threads) }
         ensures notes { map plain result.now ≡ slice_index_or self.now.notes (thread - 1) [] }
         ensures one_a_point { length result.now ≡ points self.now.program thread }
+        ensures speaks { All (IsOver self.now.program) (map plain result.now) }
     {
         self.notes[usize::from(thread) - 1].as_slice()
     }

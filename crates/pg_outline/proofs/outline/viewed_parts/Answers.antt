@@ -6,7 +6,7 @@ use Rattle.pg_assertion.specs.declared.formula.Formula.{Formula}
 use Rattle.pg_assertion.specs.Formula.{plain}
 use Rattle.pg_program.specs.NameTable.{NameTable}
 use Rattle.pg_outline.specs.Outline.{Draft}
-use Rattle.pg_outline.proofs.Parts.{Counts, pre_told, crash_told, notes_told, expansion_told, atoms_inside}
+use Rattle.pg_outline.proofs.Parts.{Counts, pre_first, crash_first, notes_first, expansion_first, atoms_inside}
 use Rattle.pg_outline.proofs.outline.viewed_parts.Goals as goal
 
 pub returns-in_err-pre : goal.returns-in_err-pre
@@ -14,21 +14,21 @@ returns-in_err-pre c =
     let o : Draft = record { program = c.args.program.now; pre = plain c.args.pre.now; crash = plain c.args.crash.now; notes = map (λ (t : Vec (Formula RawAtom) Global). map plain t.items) c.args.notes.now } in
     let counts : Counts c.domain.result c.threads.result o = record { domain = c.domain.ensures ∙ ap (λ (n : NameTable). n.domain) c.names.ensures.names; threads = c.threads.ensures.count } in
     let p = err_from_is_err_and c.from_residual.result c.from_residual.ensures.1 in
-    rw (p.1, p.2) (λ real. pre_told c.domain.result c.threads.result o c.in_err-pre.field-0.0 counts (c.in_err-pre.ensures real))
+    rw (p.1, p.2) (λ real. pre_first c.domain.result c.threads.result o c.in_err-pre.field-0.0 counts (c.in_err-pre.ensures real))
 
 pub returns-in_err-check_crash : goal.returns-in_err-check_crash
 returns-in_err-check_crash c =
     let o : Draft = record { program = c.args.program.now; pre = plain c.args.pre.now; crash = plain c.args.crash.now; notes = map (λ (t : Vec (Formula RawAtom) Global). map plain t.items) c.args.notes.now } in
     let counts : Counts c.domain.result c.threads.result o = record { domain = c.domain.ensures ∙ ap (λ (n : NameTable). n.domain) c.names.ensures.names; threads = c.threads.ensures.count } in
     let p = err_from_is_err_and c.from_residual-in_err-check_crash.result c.from_residual-in_err-check_crash.ensures.1 in
-    rw (p.1, p.2) (λ real. crash_told c.domain.result c.threads.result o c.in_err-check_crash.field-0.0 counts c.in_ok-pre.ensures.1 (c.in_err-check_crash.ensures real))
+    rw (p.1, p.2) (λ real. crash_first c.domain.result c.threads.result o c.in_err-check_crash.field-0.0 counts c.in_ok-pre.ensures.1 (c.in_err-check_crash.ensures real))
 
 pub returns-in_err-notes : goal.returns-in_err-notes
 returns-in_err-notes c =
     let o : Draft = record { program = c.args.program.now; pre = plain c.args.pre.now; crash = plain c.args.crash.now; notes = map (λ (t : Vec (Formula RawAtom) Global). map plain t.items) c.args.notes.now } in
     let counts : Counts c.domain.result c.threads.result o = record { domain = c.domain.ensures ∙ ap (λ (n : NameTable). n.domain) c.names.ensures.names; threads = c.threads.ensures.count } in
     let p = err_from_is_err_and c.from_residual-in_err-notes.result c.from_residual-in_err-notes.ensures.1 in
-    rw (p.1, p.2) (λ real. notes_told c.domain.result c.threads.result o c.in_err-notes.field-0.0 counts c.in_ok-pre.ensures.1 c.in_ok-check_crash.ensures (c.in_err-notes.ensures real))
+    rw (p.1, p.2) (λ real. notes_first c.domain.result c.threads.result o c.in_err-notes.field-0.0 counts c.in_ok-pre.ensures.1 c.in_ok-check_crash.ensures (c.in_err-notes.ensures real))
 
 pub expanded-requires-clause-crash : goal.expanded-requires-clause-crash
 expanded-requires-clause-crash c =
@@ -42,7 +42,7 @@ returns-in_err-expanded c =
     let o : Draft = record { program = c.args.program.now; pre = plain c.args.pre.now; crash = plain c.args.crash.now; notes = map (λ (t : Vec (Formula RawAtom) Global). map plain t.items) c.args.notes.now } in
     let counts : Counts c.domain.result c.threads.result o = record { domain = c.domain.ensures ∙ ap (λ (n : NameTable). n.domain) c.names.ensures.names; threads = c.threads.ensures.count } in
     let p = err_from_is_err_and c.from_residual-in_err-expanded.result c.from_residual-in_err-expanded.ensures.1 in
-    rw (p.1, p.2) (λ real. expansion_told c.domain.result c.threads.result o (Some c.in_err-expanded.field-0.0) counts c.in_ok-pre.ensures.1 c.in_ok-check_crash.ensures c.in_ok-notes.ensures.1 (rw c.names-2.ensures.names at (c.in_err-expanded.ensures real)))
+    rw (p.1, p.2) (λ real. expansion_first c.domain.result c.threads.result o (Some c.in_err-expanded.field-0.0) counts c.in_ok-pre.ensures.1 c.in_ok-check_crash.ensures c.in_ok-notes.ensures.1 (rw c.names-2.ensures.names at (c.in_err-expanded.ensures real)))
 
 pub returns : goal.returns
 returns c =
@@ -52,5 +52,5 @@ returns c =
       pre = c.in_ok-pre.ensures.0;
       expanded = rw c.names-2.ensures.names at c.in_ok-expanded.ensures.0;
       notes = c.in_ok-notes.ensures.0;
-      faultless = expansion_told c.domain.result c.threads.result o None counts c.in_ok-pre.ensures.1 c.in_ok-check_crash.ensures c.in_ok-notes.ensures.1 (rw c.names-2.ensures.names at c.in_ok-expanded.ensures.1);
+      faultless = expansion_first c.domain.result c.threads.result o None counts c.in_ok-pre.ensures.1 c.in_ok-check_crash.ensures c.in_ok-notes.ensures.1 (rw c.names-2.ensures.names at c.in_ok-expanded.ensures.1);
     }
