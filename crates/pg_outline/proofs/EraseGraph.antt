@@ -5,7 +5,7 @@ use Rattle.pg_program.specs.declared.syntax.Stmt.{Stmt, out-Stmt}
 use Rattle.pg_program.specs.declared.syntax.Act.{Act, out-Act}
 use Rattle.pg_program.specs.declared.syntax.Act.TheOpen.{Act-F, Assign, Store, Load, Cas, Mfence, Sfence, Flush, Flushopt, If, While}
 use Rattle.pg_program.specs.declared.point.Step.{Step}
-use Rattle.pg_program.specs.Block.{Block, node, block, first_list as first_of, second_list as second_of}
+use Rattle.pg_program.specs.Block.{Block, node, block, first_list, second_list}
 use Rattle.pg_program.specs.Graph.{size, statements, is_test, is_loop, is_test_in, is_loop_in, into, own_steps, exit_of, steps, thread_steps}
 use Rattle.pg_program.specs.Program.{thread_of}
 use Rattle.pg_program.proofs.BlockLemmas.{block-nests}
@@ -84,8 +84,8 @@ module _ (place : ℕ → ℕ) where
   by_size n [] h = record { size_is = refl; into_is = λ first exit. refl; steps_are = λ t first exit. refl }
   by_size zero (s ∷ ss) h = absurd (omega arith)
   by_size (suc n) (s ∷ ss) h =
-      let first = first_of s in
-      let second = second_of s in
+      let first = first_list s in
+      let second = second_list s in
       let e = erased_stmt place s in
       let few : size (block (s ∷ ss)) ≡ 1 + (size (block first) + (size (block second) + size (block ss))) = ap size (block-nests s ss) in
       let nest : block (erase (s ∷ ss)) ≡ node e (block (erase first)) (block (erase second)) (block (erase ss)) =

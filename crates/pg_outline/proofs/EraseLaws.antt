@@ -15,7 +15,7 @@ use Rattle.pg_program.specs.declared.syntax.Act.TheOpen.{Act-F, Assign, Store, L
 use Rattle.pg_program.specs.declared.syntax.Act.TheFolds.{map-Act, fold_out-Act, fold_out-Stmt}
 use Rattle.pg_program.specs.NameTable.{NameTable, is_auxiliary_kind}
 use Rattle.pg_program.specs.Expr.{reads, reads_step}
-use Rattle.pg_program.specs.Block.{block, first_in, second_in, first_list as first_of, second_list as second_of}
+use Rattle.pg_program.specs.Block.{block, first_in, second_in, first_list, second_list}
 use Rattle.pg_program.specs.Graph.{size, statements}
 use Rattle.pg_program.specs.Words.{outside, outside_in, bracket_scalars}
 use Rattle.pg_program.specs.Program.{ProgramTable, IsStmt, IsThread}
@@ -127,7 +127,7 @@ module _ (place : ℕ → ℕ) where
       ap (λ (c : Cond). roll-Act (If c (erase a) (erase b))) (same_test test all) ∙ ap₂ (λ (l m : List Stmt). roll-Act (If test l m)) first second
   same_act (While test a) all first second = ap₂ (λ (c : Cond) (l : List Stmt). roll-Act (While c l)) (same_test test all) first
 
-  same_stmt : (s : Stmt) → NoBracket s → All Stays (outside s) → erase (first_of s) ≡ first_of s → erase (second_of s) ≡ second_of s → erased_stmt place s ≡ s
+  same_stmt : (s : Stmt) → NoBracket s → All Stays (outside s) → erase (first_list s) ≡ first_list s → erase (second_list s) ≡ second_list s → erased_stmt place s ≡ s
   same_stmt s bare all first second =
       let a = (out-Stmt s).act in
       let act : erased_act place a ≡ a = fold_out-Act Act Stmt (act_step place) stmt_step a ∙ same_act (out-Act a) all first second ∙ roll-out-Act a in
@@ -144,8 +144,8 @@ module _ (place : ℕ → ℕ) where
   by_size n [] h all = refl
   by_size zero (s ∷ ss) h all = absurd (omega arith)
   by_size (suc n) (s ∷ ss) h all =
-      let first = first_of s in
-      let second = second_of s in
+      let first = first_list s in
+      let second = second_list s in
       let few : size (block (s ∷ ss)) ≡ 1 + (size (block first) + (size (block second) + size (block ss))) = ap size (block-nests s ss) in
       let a = statements (block first) in
       let b = statements (block second) in

@@ -9,7 +9,7 @@ use Rattle.pg_program.specs.declared.syntax.Act.{Act, out-Act, out-roll-Act}
 use Rattle.pg_program.specs.declared.syntax.Act.TheOpen.{Act-F, Stmt-F, Assign, Store, Load, Cas, Mfence, Sfence, Flush, Flushopt, If, While}
 use Rattle.pg_program.specs.declared.syntax.Act.TheFolds.{map-Act, fold_out-Act, fold_out-Stmt}
 use Rattle.pg_program.specs.Expr.{reads, reads_step, numbers, numbers_step}
-use Rattle.pg_program.specs.Block.{Block, block, first_in, second_in, first_list as first_of, second_list as second_of}
+use Rattle.pg_program.specs.Block.{Block, block, first_in, second_in, first_list, second_list}
 use Rattle.pg_program.specs.Graph.{size, statements}
 use Rattle.pg_program.specs.Words.{outside_in, numbers_in, groups_in, locations_in}
 use Rattle.pg_program.proofs.BlockLemmas.{block-nests}
@@ -186,10 +186,10 @@ module _ (place : ℕ → ℕ) where
   second_moved (If test a b) = refl
   second_moved (While test a) = refl
 
-  pub first_is : (s : Stmt) → first_of (erased_stmt place s) ≡ map (erased_stmt place) (first_of s)
+  pub first_is : (s : Stmt) → first_list (erased_stmt place s) ≡ map (erased_stmt place) (first_list s)
   first_is s = ap (λ (x : Act-F Act Stmt). first_in x) (act_is s) ∙ first_moved (out-Act (out-Stmt s).act)
 
-  pub second_is : (s : Stmt) → second_of (erased_stmt place s) ≡ map (erased_stmt place) (second_of s)
+  pub second_is : (s : Stmt) → second_list (erased_stmt place s) ≡ map (erased_stmt place) (second_list s)
   second_is s = ap (λ (x : Act-F Act Stmt). second_in x) (act_is s) ∙ second_moved (out-Act (out-Stmt s).act)
 
   abbrev erase : List Stmt → List Stmt
@@ -206,11 +206,11 @@ module _ (place : ℕ → ℕ) where
   by_size n [] h = refl
   by_size zero (s ∷ ss) h = absurd (omega arith)
   by_size (suc n) (s ∷ ss) h =
-      let first = first_of s in
-      let second = second_of s in
+      let first = first_list s in
+      let second = second_list s in
       let few : size (block (s ∷ ss)) ≡ 1 + (size (block first) + (size (block second) + size (block ss))) = ap size (block-nests s ss) in
-      let one : statements (block (first_of (erased_stmt place s))) ≡ erase (statements (block first)) = ap (λ (l : List Stmt). statements (block l)) (first_is s) ∙ by_size n first (omega arith) in
-      let two : statements (block (second_of (erased_stmt place s))) ≡ erase (statements (block second)) = ap (λ (l : List Stmt). statements (block l)) (second_is s) ∙ by_size n second (omega arith) in
+      let one : statements (block (first_list (erased_stmt place s))) ≡ erase (statements (block first)) = ap (λ (l : List Stmt). statements (block l)) (first_is s) ∙ by_size n first (omega arith) in
+      let two : statements (block (second_list (erased_stmt place s))) ≡ erase (statements (block second)) = ap (λ (l : List Stmt). statements (block l)) (second_is s) ∙ by_size n second (omega arith) in
       ap statements (block-nests (erased_stmt place s) (erase ss))
       ∙ ap₂ (λ (l m : List Stmt). erased_stmt place s ∷ (l ++ m)) one (ap₂ (λ (l m : List Stmt). l ++ m) two (by_size n ss (omega arith)))
       ∙ sym (joined s (statements (block first)) (statements (block second)) (statements (block ss)))

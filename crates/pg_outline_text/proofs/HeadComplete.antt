@@ -18,7 +18,7 @@ use Rattle.pg_assertion_text.specs.Input as input
 use Rattle.pg_assertion_text.specs.Input.{Input, Outcome, Parser, and_then, pure, allowed, peek, next, expect}
 use Rattle.pg_assertion_text.specs.Laws.{FindsAtoms, ReadsAtoms, BeginsAtoms}
 use Rattle.pg_assertion_text.specs.Parsing.{formula_at}
-use Rattle.pg_assertion_text.specs.Steps.{bind_value, next_reads, peek_reads, stands_token, expect_reads, number_reads}
+use Rattle.pg_assertion_text.proofs.Steps.{bind_value, next_reads, peek_reads, stands_token, expect_reads, number_reads}
 use Rattle.pg_assertion_text.proofs.Whole.{formula_at_reads}
 use Rattle.pg_program_text.specs.Stmt.{behind}
 use Rattle.pg_outline_text.specs.declared.word.Keyword.{Keyword}

@@ -19,7 +19,7 @@ use Rattle.pg_assertion_text.specs.Input as input
 use Rattle.pg_assertion_text.specs.Input.{Input, Outcome, Parser, and_then, pure, allowed, peek, next, expect}
 use Rattle.pg_assertion_text.specs.Laws.{FindsAtoms, ReadsAtoms, BeginsAtoms}
 use Rattle.pg_assertion_text.specs.Parsing.{IsFormula, formula_at}
-use Rattle.pg_assertion_text.specs.Steps.{ok_same, bind_then, allowed_then, next_found, peek_found, Takes, takes_then, expect_found, number_found}
+use Rattle.pg_assertion_text.proofs.Steps.{ok_same, bind_then, allowed_then, next_found, peek_found, Takes, takes_then, expect_found, number_found}
 use Rattle.pg_assertion_text.proofs.Whole.{formula_at_found}
 use Rattle.pg_program_text.specs.Stmt.{behind}
 use Rattle.pg_outline_text.specs.declared.word.Keyword.{Keyword}

@@ -10,7 +10,7 @@ use Rattle.pg_lex.specs.Lex.{Cursor, Lexeme, token, after}
 use Rattle.pg_program.specs.NameTable.{NameTable}
 use Rattle.pg_assertion_text.specs.Words.{Stands}
 use Rattle.pg_assertion_text.specs.Input.{Input, Outcome, pure, refuse, next}
-use Rattle.pg_assertion_text.specs.Steps.{ok_same, bind_then, bind_value, next_found, stands_token, Takes, takes_one}
+use Rattle.pg_assertion_text.proofs.Steps.{ok_same, bind_then, bind_value, next_found, stands_token, Takes, takes_one}
 use Rattle.pg_outline_text.specs.declared.word.Keyword.{Keyword}
 use Rattle.pg_outline_text.specs.Word.{spelling, is_word_by, is_keyword, expect_word}
 use Rattle.pg_outline_text.specs.Grammar.{keyword}

@@ -15,8 +15,8 @@ use Rattle.pg_assertion.specs.Formula.{Plain}
 use Rattle.pg_assertion_text.specs.Words.{Stands, Stand, sign, number}
 use Rattle.pg_assertion_text.specs.Input.{Input, and_then, pure, refuse, allowed, peek, next, node, expect, is_sign, named}
 use Rattle.pg_assertion_text.specs.Atoms.{raw_atom, crash_atom, IsRaw, IsCrash}
-use Rattle.pg_assertion_text.specs.AtomLaws.{raw_found, raw_again, raw_begins, crash_found, crash_again, crash_begins}
-use Rattle.pg_assertion_text.specs.Steps.{bind_value, peek_reads, stands_token, node_reads, expect_reads, sign_is_same, stand-split}
+use Rattle.pg_assertion_text.proofs.AtomLaws.{raw_found, raw_again, raw_begins, crash_found, crash_again, crash_begins}
+use Rattle.pg_assertion_text.proofs.Steps.{bind_value, peek_reads, stands_token, node_reads, expect_reads, sign_is_same, stand-split}
 use Rattle.pg_program_text.specs.Stmt.{behind}
 use Rattle.pg_program_text.specs.Thread.{Lines, thread_at}
 use Rattle.pg_program_text.specs.Grammar.{IsThreadText}

@@ -17,8 +17,8 @@ use Rattle.pg_assertion.specs.Formula.{Plain}
 use Rattle.pg_assertion_text.specs.Words.{Stands, sign, number}
 use Rattle.pg_assertion_text.specs.Input.{Input, Outcome, and_then, pure, refuse, peek, next, node, expect, is_sign, named}
 use Rattle.pg_assertion_text.specs.Atoms.{raw_atom, crash_atom, IsRaw, IsCrash}
-use Rattle.pg_assertion_text.specs.AtomLaws.{raw_found, raw_again, raw_begins, crash_found, crash_again, crash_begins}
-use Rattle.pg_assertion_text.specs.Steps.{ok_same, bind_then, allowed_then, next_found, peek_found, Takes, takes_one, takes_then, node_takes, expect_found, is_sign_found}
+use Rattle.pg_assertion_text.proofs.AtomLaws.{raw_found, raw_again, raw_begins, crash_found, crash_again, crash_begins}
+use Rattle.pg_assertion_text.proofs.Steps.{ok_same, bind_then, allowed_then, next_found, peek_found, Takes, takes_one, takes_then, node_takes, expect_found, is_sign_found}
 use Rattle.pg_program_text.specs.Stmt.{behind}
 use Rattle.pg_program_text.specs.Thread.{Lines, thread_at}
 use Rattle.pg_program_text.specs.Grammar.{IsThreadText}

@@ -12,7 +12,7 @@ use Rattle.pg_program.specs.declared.syntax.Expr.TheVariants as e
 use Rattle.pg_assertion_text.specs.Words.{Stands, sign, number, scalar, same_sign}
 use Rattle.pg_assertion_text.specs.Follows.{Leaves}
 use Rattle.pg_assertion_text.specs.Input.{Input, Parser, and_then, pure, refuse, allowed, next, node, expect, is_sign, scalar_in}
-use Rattle.pg_assertion_text.specs.Steps.{bind_value, stands_token, node_reads, expect_reads, goes_on_reads, goes_on_leaves, named_reads, sign_is_same}
+use Rattle.pg_assertion_text.proofs.Steps.{bind_value, stands_token, node_reads, expect_reads, goes_on_reads, goes_on_leaves, named_reads, sign_is_same}
 use Rattle.pg_program_text.specs.Expr as x
 use Rattle.pg_program_text.specs.Expr.{Rule, Is, by_sign, times, plus_or_minus, or_minus, next_link, linked_on, linked, product, sum, deeper, scalar_factor, factor_by, factor_in, factor_of, a_number, a_scalar, a_bracket, a_term, a_product, an_expr, a_sum, a_difference}
 

@@ -13,7 +13,7 @@ use Rattle.pg_program.specs.declared.syntax.Expr.{Expr}
 use Rattle.pg_program.specs.declared.syntax.Expr.TheVariants as e
 use Rattle.pg_assertion_text.specs.Words.{Stands, sign, number, scalar}
 use Rattle.pg_assertion_text.specs.Input.{Input, Outcome, Parser, refuse, allowed, next, node, goes_on, expect, is_sign, named, scalar_in}
-use Rattle.pg_assertion_text.specs.Steps.{ok_same, bind_then, allowed_then, next_found, node_takes, is_sign_found, Takes, takes_one, takes_then, expect_found, goes_on_found, goes_on_stops, named_found, scalar_in_found}
+use Rattle.pg_assertion_text.proofs.Steps.{ok_same, bind_then, allowed_then, next_found, node_takes, is_sign_found, Takes, takes_one, takes_then, expect_found, goes_on_found, goes_on_stops, named_found, scalar_in_found}
 use Rattle.pg_program_text.specs.Expr as x
 use Rattle.pg_program_text.specs.Expr.{Rule, Is, by_sign, times, plus_or_minus, or_minus, next_link, linked_on, linked, product, sum, deeper, scalar_factor, factor_by, factor_in, factor_of}
 

@@ -4,7 +4,7 @@ use Rattle.pg_lex.specs.Lex.{Lexeme}
 use Rattle.pg_program.specs.NameTable.{NameTable, place_in}
 use Rattle.pg_program.specs.declared.name_table.NameRef.TheVariants as place
 use Rattle.pg_assertion_text.specs.Input.{named}
-use Rattle.pg_assertion_text.specs.Steps.{named_found}
+use Rattle.pg_assertion_text.proofs.Steps.{named_found}
 use Rattle.pg_assertion_text.proofs.Names.{place_within, found_scalar}
 
 pub scalar_within : (names : NameTable) (t : Lexeme) (r : ℕ) → named names t ≡ Ok (place.Scalar r) → r < length names.scalars

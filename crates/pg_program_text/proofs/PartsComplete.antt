@@ -22,9 +22,9 @@ use Rattle.pg_assertion_text.specs.Words.{Stands, sign, word, location, scalar, 
 use Rattle.pg_assertion_text.specs.Input as input
 use Rattle.pg_assertion_text.specs.Input.{Input, Outcome, Parser, and_then, ◌>>◌, ◌>>=◌, pure, refuse, allowed, peek, next, node, expect, is_sign, named}
 use Rattle.pg_assertion_text.specs.Atoms.{raw_atom, IsRaw}
-use Rattle.pg_assertion_text.specs.AtomLaws.{raw_found, raw_again, raw_begins}
+use Rattle.pg_assertion_text.proofs.AtomLaws.{raw_found, raw_again, raw_begins}
 use Rattle.pg_assertion_text.specs.Parsing.{IsFormula}
-use Rattle.pg_assertion_text.specs.Steps.{bind_value, peek_reads, stands_token, node_reads, expect_reads, location_reads, named_reads, sign_is_same}
+use Rattle.pg_assertion_text.proofs.Steps.{bind_value, peek_reads, stands_token, node_reads, expect_reads, location_reads, named_reads, sign_is_same}
 use Rattle.pg_assertion_text.proofs.Whole.{formula_at_reads}
 use Rattle.pg_program_text.specs.Limits.{most_expression_nodes, most_open_brackets, most_assignments}
 use Rattle.pg_program_text.specs.declared.keyword.Keyword.{Keyword}

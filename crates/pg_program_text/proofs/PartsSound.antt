@@ -26,9 +26,9 @@ use Rattle.pg_assertion_text.specs.Words.{Item, Stands, Stand, Matches, sign, wo
 use Rattle.pg_assertion_text.specs.Input as input
 use Rattle.pg_assertion_text.specs.Input.{Input, Outcome, Parser, and_then, ◌>>◌, pure, refuse, allowed, peek, next, node, expect, is_sign, named}
 use Rattle.pg_assertion_text.specs.Atoms.{raw_atom, IsRaw}
-use Rattle.pg_assertion_text.specs.AtomLaws.{raw_found, raw_again, raw_begins}
+use Rattle.pg_assertion_text.proofs.AtomLaws.{raw_found, raw_again, raw_begins}
 use Rattle.pg_assertion_text.specs.Parsing.{IsFormula, formula_at}
-use Rattle.pg_assertion_text.specs.Steps.{ok_same, bind_then, allowed_then, next_found, peek_found, node_takes, is_sign_found, Takes, takes_one, takes_then, expect_found, location_found, named_found}
+use Rattle.pg_assertion_text.proofs.Steps.{ok_same, bind_then, allowed_then, next_found, peek_found, node_takes, is_sign_found, Takes, takes_one, takes_then, expect_found, location_found, named_found}
 use Rattle.pg_assertion_text.proofs.Whole.{formula_at_found}
 use Rattle.pg_program_text.specs.Limits.{most_expression_nodes, most_open_brackets, most_assignments}
 use Rattle.pg_program_text.specs.declared.keyword.Keyword.{Keyword}

@@ -6,7 +6,7 @@ use Rattle.std.proofs.lemmas.List.{drop_more, drop-drop}
 use Rattle.std.proofs.lemmas.List.Elements.{All-tail}
 use Rattle.pg_program.specs.declared.syntax.Stmt.{Stmt}
 use Rattle.pg_program.specs.NameTable.{NameTable}
-use Rattle.pg_program.specs.Block.{Block, node, block, first_list as first_of, second_list as second_of}
+use Rattle.pg_program.specs.Block.{Block, node, block, first_list, second_list}
 use Rattle.pg_program.specs.Graph.{size}
 use Rattle.pg_program.proofs.BlockLemmas.{block-nests}
 use Rattle.pg_assertion.specs.declared.atom.ViewAtom.{ViewAtom}
@@ -39,24 +39,24 @@ drops a b c xs =
 
 -- what is left of a block begins with this statement
 module _ (ss : List Stmt) (i : ℕ) (s : Stmt) (below : i < length ss) (is : s ≡ get_or ss i s) where
-  pub block_turn : block (drop i ss) ≡ node s (block (first_of s)) (block (second_of s)) (block (drop (i + 1) ss))
+  pub block_turn : block (drop i ss) ≡ node s (block (first_list s)) (block (second_list s)) (block (drop (i + 1) ss))
   block_turn = ap block (drop_more ss i s below ∙ ap (λ (t : Stmt). t ∷ drop (i + 1) ss) (sym is)) ∙ block-nests s (drop (i + 1) ss)
 
-  pub size_turn : size (block (drop i ss)) ≡ 1 + (size (block (first_of s)) + (size (block (second_of s)) + size (block (drop (i + 1) ss))))
+  pub size_turn : size (block (drop i ss)) ≡ 1 + (size (block (first_list s)) + (size (block (second_list s)) + size (block (drop (i + 1) ss))))
   size_turn = ap size block_turn
 
   pub notes_turn : {X : Type 0} (xs : List X)
-      → drop (size (block (drop i ss))) xs ≡ drop (size (block (drop (i + 1) ss))) (drop (size (block (second_of s))) (drop (size (block (first_of s))) (drop 1 xs)))
-  notes_turn xs = ap (λ (n : ℕ). drop n xs) size_turn ∙ drops (size (block (first_of s))) (size (block (second_of s))) (size (block (drop (i + 1) ss))) xs
+      → drop (size (block (drop i ss))) xs ≡ drop (size (block (drop (i + 1) ss))) (drop (size (block (second_list s))) (drop (size (block (first_list s))) (drop 1 xs)))
+  notes_turn xs = ap (λ (n : ℕ). drop n xs) size_turn ∙ drops (size (block (first_list s))) (size (block (second_list s))) (size (block (drop (i + 1) ss))) xs
 
   pub text_turn : (names : NameTable) (depth : ℕ) (notes : List (Plain ViewAtom))
       → spell_block names depth (block (drop i ss)) notes
-      ≡ stmt_lines names depth s (block (first_of s)) (block (second_of s)) notes
-      ++ spell_block names depth (block (drop (i + 1) ss)) (drop (size (block (second_of s))) (drop (size (block (first_of s))) (drop 1 notes)))
+      ≡ stmt_lines names depth s (block (first_list s)) (block (second_list s)) notes
+      ++ spell_block names depth (block (drop (i + 1) ss)) (drop (size (block (second_list s))) (drop (size (block (first_list s))) (drop 1 notes)))
   unfolding spell_block
   text_turn names depth notes =
-      let first = block (first_of s) in
-      let second = block (second_of s) in
+      let first = block (first_list s) in
+      let second = block (second_list s) in
       let behind = spell_block names depth (block (drop (i + 1) ss)) (drop (size second) (drop (size first) (drop 1 notes))) in
       ap (λ (b : Block). spell_block names depth b notes) block_turn
       ∙ moved (note_line names depth notes) _ behind _
@@ -65,6 +65,6 @@ module _ (ss : List Stmt) (i : ℕ) (s : Stmt) (below : i < length ss) (is : s �
       (moved (else_line depth second) _ behind _ (sym (append_assoc (spell_block names (depth + 1) second (drop (size first) (drop 1 notes))) (last_line depth s) behind)))))
 
   pub declared_turn : (names : NameTable) → BlockDeclared names (block (drop i ss))
-      → StmtDeclared names s × BlockDeclared names (block (first_of s)) × BlockDeclared names (block (second_of s)) × BlockDeclared names (block (drop (i + 1) ss))
+      → StmtDeclared names s × BlockDeclared names (block (first_list s)) × BlockDeclared names (block (second_list s)) × BlockDeclared names (block (drop (i + 1) ss))
   unfolding BlockDeclared
   declared_turn names h = subst (BlockDeclared names) block_turn h

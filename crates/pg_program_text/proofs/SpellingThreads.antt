@@ -13,7 +13,7 @@ use Rattle.pg_program.specs.declared.syntax.Stmt.{Stmt, out-Stmt, roll-Stmt}
 use Rattle.pg_program.specs.declared.syntax.Act.{Act, out-Act, roll-Act, roll-out-Act}
 use Rattle.pg_program.specs.declared.syntax.Act.TheOpen.{Act-F, Assign, Store, Load, Cas, Mfence, Sfence, Flush, Flushopt, If, While}
 use Rattle.pg_program.specs.declared.syntax.Act.TheVariants as act
-use Rattle.pg_program.specs.Block.{Block, node, block, first_in, second_in, first_list as first_of, second_list as second_of}
+use Rattle.pg_program.specs.Block.{Block, node, block, first_in, second_in, first_list, second_list}
 use Rattle.pg_program.specs.Graph.{size, statements, is_test_in}
 use Rattle.pg_program.proofs.BlockLemmas.{block-nests}
 use Rattle.pg_program.proofs.ExprLemmas.{All-front, All-behind}
@@ -210,7 +210,7 @@ module _ (names : NameTable) (table : IsNameTable names) (are : AreNames names) 
       → size (block ss) ≤ length fs → All WholeNote fs → Written (LinesAt n ss (raws (take (size (block ss)) fs))) (spell_block names depth (block ss) fs)
 
   abbrev LineOf : Stmt → List Stmt → Block
-  LineOf s ss = node s (block (first_of s)) (block (second_of s)) (block ss)
+  LineOf s ss = node s (block (first_list s)) (block (second_list s)) (block ss)
 
   node_written : (k : ℕ) → Below k → (s : Stmt) (ss : List Stmt) (n depth : ℕ) (fs : Notes) → size (LineOf s ss) ≤ suc k → All (WholeStmt names) (statements (LineOf s ss))
       → nesting (LineOf s ss) ≤ n → size (LineOf s ss) ≤ length fs → All WholeNote fs
@@ -220,8 +220,8 @@ module _ (names : NameTable) (table : IsNameTable names) (are : AreNames names) 
   node_written k below s ss n depth (f ∷ fs) small whole low enough are_notes =
       let x = out-Act (out-Stmt s).act in
       let aux = (out-Stmt s).aux in
-      let a = block (first_of s) in
-      let b = block (second_of s) in
+      let a = block (first_list s) in
+      let b = block (second_list s) in
       let r = block ss in
       let P = WholeStmt names in
       let w = All-head P s (statements a ++ (statements b ++ statements r)) whole in
@@ -239,8 +239,8 @@ module _ (names : NameTable) (table : IsNameTable names) (are : AreNames names) 
       let text = stmt_line names depth s ++ (A ++ (else_line depth b ++ (B ++ last_line depth s))) in
       let of_x : Written (StmtAt n (stmt_of x aux) ms) text =
       stmt_written x aux n depth fs
-      (λ m h. below (first_of s) m (depth + 1) fs (omega arith) (All-front P (statements a) (statements b ++ statements r) inner) h (omega arith) each)
-      (λ m h. below (second_of s) m (depth + 1) behind_first (omega arith) (All-front P (statements b) (statements r) others) h (omega arith) (all_drop WholeNote (size a) fs each))
+      (λ m h. below (first_list s) m (depth + 1) fs (omega arith) (All-front P (statements a) (statements b ++ statements r) inner) h (omega arith) each)
+      (λ m h. below (second_list s) m (depth + 1) behind_first (omega arith) (All-front P (statements b) (statements r) others) h (omega arith) (all_drop WholeNote (size a) fs each))
       (omega arith) w.act w.assignments w.few w.bare
       in
       let of_s : Written (StmtAt n s ms) text = subst (λ (y : Act). Written (StmtAt n (roll-Stmt (record { act = y; aux = aux })) ms) text) (roll-out-Act (out-Stmt s).act) of_x in

@@ -20,7 +20,7 @@ use Rattle.pg_assertion.specs.Formula.{Plain}
 use Rattle.pg_assertion_text.specs.Words.{Stands, sign, word}
 use Rattle.pg_assertion_text.specs.Input.{Input, Parser, and_then, pure, peek, is_sign, named}
 use Rattle.pg_assertion_text.specs.Parsing.{placed}
-use Rattle.pg_assertion_text.specs.Steps.{bind_value, peek_reads, stands_token, expect_reads, named_reads, sign_is_same}
+use Rattle.pg_assertion_text.proofs.Steps.{bind_value, peek_reads, stands_token, expect_reads, named_reads, sign_is_same}
 use Rattle.pg_program_text.specs.declared.keyword.Keyword.{Keyword}
 use Rattle.pg_program_text.specs.declared.keyword.Keyword.TheVariants as k
 use Rattle.pg_program_text.specs.declared.thread.ThreadText.{ThreadText}

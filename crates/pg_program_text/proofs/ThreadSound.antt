@@ -15,7 +15,7 @@ use Rattle.pg_assertion.specs.Formula.{Plain}
 use Rattle.pg_assertion_text.specs.Words.{Stands, sign, word}
 use Rattle.pg_assertion_text.specs.Input.{Input, Outcome, Parser, pure, peek, next, expect, is_sign}
 use Rattle.pg_assertion_text.specs.Parsing.{placed}
-use Rattle.pg_assertion_text.specs.Steps.{ok_same, bind_then, next_found, peek_found, is_sign_found, expect_found}
+use Rattle.pg_assertion_text.proofs.Steps.{ok_same, bind_then, next_found, peek_found, is_sign_found, expect_found}
 use Rattle.pg_program_text.specs.declared.keyword.Keyword.{Keyword}
 use Rattle.pg_program_text.specs.declared.keyword.Keyword.TheVariants as k
 use Rattle.pg_program_text.specs.Limits.{most_points, most_open_blocks}

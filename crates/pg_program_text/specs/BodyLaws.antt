@@ -9,7 +9,7 @@ use Rattle.pg_assertion.specs.declared.atom.ViewAtom.{ViewAtom}
 use Rattle.pg_assertion.specs.declared.atom.RawAtom.{RawAtom}
 use Rattle.pg_assertion.specs.Atom.{RawDeclared, raw_of}
 use Rattle.pg_assertion.specs.Formula.{Plain, AllAtoms, nodes, with_atoms}
-use Rattle.pg_assertion_text.specs.declared.parse.TheConstants.{MAX_NODES}
+use Rattle.pg_assertion_text.specs.Limits.{most_nodes}
 use Rattle.pg_assertion_text.specs.Spelling.{AreNames}
 use Rattle.pg_program_text.specs.Thread.{Lines}
 use Rattle.pg_program_text.specs.Grammar.{IsThreadText}
@@ -34,7 +34,7 @@ BodiesAreWhole =
 -- Its notes speak of declared names alone, and have few nodes.
 pub record SpeakOfNames (names : NameTable) (notes : List (Plain RawAtom)) : Type 0 where
   pub declared : All (AllAtoms (RawDeclared names)) notes
-  pub few : All (λ f. nodes f ≤ MAX_NODES) notes
+  pub few : All (λ f. nodes f ≤ most_nodes) notes
 
 abbrev pub TextsSpeakOfNames : Type 0
 TextsSpeakOfNames = (names : NameTable) (from to : Cursor) (l : Lines) → IsThreadText names from l to → SpeakOfNames names l.notes

@@ -3,7 +3,7 @@
 
 ghost use Rattle.std.specs.Prelude.{◌≡◌, ◌≤◌, ◌+◌, ◌<◌, ◌^◌, ◌++◌, [], ◌∷◌, length, decimal, codes, map, drop, All, IfOk, OnOk, OnErr, MatchOption};
 ghost use Rattle.pg_program.specs.declared.syntax.Act.{out-Act};
-ghost use Rattle.pg_program.specs.Block.{block, first_list as first_of, second_list as second_of};
+ghost use Rattle.pg_program.specs.Block.{block, first_list, second_list};
 ghost use Rattle.pg_program.specs.Graph.{size, statements};
 ghost use Rattle.pg_program.specs.Graph as graph;
 ghost use Rattle.pg_program.specs.Program.{IsStmt};
@@ -363,7 +363,7 @@ fn last_line(stmt: &Stmt, depth: u64, into: &mut Vec<u8>) -> Result<(), AllocErr
 
 /// The first block within a statement.
 fn first_within(stmt: &Stmt) -> &[Stmt]
-    ensures { result.now ≡ first_of stmt.now }
+    ensures { result.now ≡ first_list stmt.now }
 {
     match &stmt.act {
         Act::If { yes, .. } => yes.as_slice(),
@@ -374,7 +374,7 @@ fn first_within(stmt: &Stmt) -> &[Stmt]
 
 /// The second block within a statement.
 fn second_within(stmt: &Stmt) -> &[Stmt]
-    ensures { result.now ≡ second_of stmt.now }
+    ensures { result.now ≡ second_list stmt.now }
 {
     match &stmt.act {
         Act::If { no, .. } => no.as_slice(),
@@ -393,13 +393,13 @@ fn spell_stmt<'a>(
     names: &Names,
     into: &mut Vec<u8>,
 ) -> Result<&'a [Formula<ViewAtom>], AllocError>
-    requires deep { depth + 1 + (size (block (first_of stmt.now)) + size (block (second_of stmt.now))) < 2 ^ 64 }
+    requires deep { depth + 1 + (size (block (first_list stmt.now)) + size (block (second_list stmt.now))) < 2 ^ 64 }
     requires stmt { StmtDeclared names.now stmt.now }
-    requires first { BlockDeclared names.now (block (first_of stmt.now)) }
-    requires second { BlockDeclared names.now (block (second_of stmt.now)) }
+    requires first { BlockDeclared names.now (block (first_list stmt.now)) }
+    requires second { BlockDeclared names.now (block (second_list stmt.now)) }
     requires notes { All (AllAtoms (NamesDeclared names.now)) (map plain notes.now) }
-    ensures rest { IfOk result (λ rest. map plain rest.now ≡ drop (size (block (second_of stmt.now))) (drop (size (block (first_of stmt.now))) (drop 1 (map plain notes.now)))) }
-    ensures text { OnOk result (into.new.items ≡ into.old.items ++ spec.stmt_lines names.now depth stmt.now (block (first_of stmt.now)) (block (second_of stmt.now)) (map plain notes.now)) }
+    ensures rest { IfOk result (λ rest. map plain rest.now ≡ drop (size (block (second_list stmt.now))) (drop (size (block (first_list stmt.now))) (drop 1 (map plain notes.now)))) }
+    ensures text { OnOk result (into.new.items ≡ into.old.items ++ spec.stmt_lines names.now depth stmt.now (block (first_list stmt.now)) (block (second_list stmt.now)) (map plain notes.now)) }
 {
     let inner = first_note(notes, depth, names, into)?;
     stmt_line(stmt, depth, names, into)?;

@@ -2,7 +2,7 @@ use Rattle.std.proofs.Common.{◌++◌, ◌+◌, ◌∙◌, List, ℕ, ap, ap₂
 use Rattle.std.proofs.lemmas.List.{drop_all, append-nil}
 use Rattle.std.specs.List.{All}
 use Rattle.pg_program.specs.declared.syntax.Stmt.{Stmt}
-use Rattle.pg_program.specs.Block.{block, first_list as first_of, second_list as second_of}
+use Rattle.pg_program.specs.Block.{block, first_list, second_list}
 use Rattle.pg_program.specs.Graph.{size}
 use Rattle.pg_assertion.specs.declared.atom.ViewAtom.{ViewAtom}
 use Rattle.pg_assertion.specs.Formula.{Plain, plain, AllAtoms}
@@ -30,8 +30,8 @@ spell_block-stmts-preserved t c =
     let depth = c.args.depth in
     let notes = map plain c.stmts.rest.now in
     let left = block (drop (i + 1) ss) in
-    let first = block (first_of s) in
-    let second = block (second_of s) in
+    let first = block (first_list s) in
+    let second = block (second_list s) in
     let behind = drop (size second) (drop (size first) (drop 1 notes)) in
     let turn = size_turn ss i s c.stmts-test.true c.stmt-item.is in
     let are = declared_turn ss i s c.stmts-test.true c.stmt-item.is names c.stmts.invariant.2 in

@@ -1,6 +1,6 @@
 use Rattle.std.proofs.Common.{◌≡◌, ◌++◌, ◌+◌, ◌*◌, ◌≤◌, drop, map}
 use Rattle.std.specs.List.{All}
-use Rattle.pg_program.specs.Block.{block, first_list as first_of, second_list as second_of}
+use Rattle.pg_program.specs.Block.{block, first_list, second_list}
 use Rattle.pg_program.specs.Graph.{size}
 use Rattle.pg_assertion.specs.Formula.{plain, AllAtoms}
 use Rattle.pg_assertion.specs.Atom.{NamesDeclared}
@@ -13,7 +13,7 @@ abbrev pub decreases-spell_block : goal.decreases-spell_block
 decreases-spell_block l = 2 * size (block l.stmts.now) + 1
 
 abbrev pub decreases-spell_stmt : goal.decreases-spell_stmt
-decreases-spell_stmt l = 2 * (size (block (first_of l.stmt.now)) + size (block (second_of l.stmt.now))) + 2
+decreases-spell_stmt l = 2 * (size (block (first_list l.stmt.now)) + size (block (second_list l.stmt.now))) + 2
 
 -- the statements so far are appended, and their notes are passed
 abbrev pub invariant-spell_block-stmts : goal.invariant-spell_block-stmts
