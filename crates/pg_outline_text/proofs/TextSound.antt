@@ -24,8 +24,7 @@ use Rattle.pg_program_text.specs.Thread.{Lines, thread_at}
 use Rattle.pg_program_text.specs.Grammar.{IsThreadText}
 use Rattle.pg_program_text.proofs.ThreadSound.{thread_found}
 use Rattle.pg_outline_text.specs.declared.word.Keyword.TheVariants as w
-use Rattle.pg_outline_text.specs.declared.parse.TheConstants.{VERSION}
-use Rattle.pg_outline_text.specs.declared.declaration.TheConstants.{MAX_DECLARATIONS}
+use Rattle.pg_outline_text.specs.Limits.{known_version, declaration_turns}
 use Rattle.pg_outline_text.specs.Word.{is_keyword}
 use Rattle.pg_outline_text.specs.Declaration.{declarations}
 use Rattle.pg_outline_text.specs.Reading.{precondition, crash_formula, opens_thread, opened, own_number_in, own_number, end_fault, close, thread, is_end, threads_on, threads, domain, outline_over, outline, version, whole}
@@ -190,7 +189,7 @@ outline_found bytes i j o head h =
     bind_then (expect s.Semicolon i) (λ u. domain) (d, k) one (λ u m semi reads.
     bind_then (declarations (empty_table d) k) outline_over (o, j) rest (λ names l declares over.
     let items = takes_then (head (empty_table d)) (takes_then (expect_found (empty_table d) s.Semicolon i m u semi) (domain_found (empty_table d) m k d reads)) in
-    let decls = declarations_found MAX_DECLARATIONS (empty_table d) names k l declares in
+    let decls = declarations_found declaration_turns (empty_table d) names k l declares in
     let is = over_found names l j o over in
     let same = sym is.names_are in
     record {
@@ -213,11 +212,11 @@ source_then (Ok p) o h use_it =
     use_it p.1 (ap (λ o. Ok (o, p.1)) (ap value h))
 source_then (Err e) o h use_it = cc
 
-version_then : {X : Type 0} (r : Outcome ℕ) (o : Source) → behind_version r ≡ Ok o → ((n : ℕ) (i : Input) → r ≡ Ok (n, i) → n ≡ VERSION → source_in (outline i) ≡ Ok o → X) → X
-version_then {X} (Ok p) o h use_it = by (p.0 == VERSION) refl h
+version_then : {X : Type 0} (r : Outcome ℕ) (o : Source) → behind_version r ≡ Ok o → ((n : ℕ) (i : Input) → r ≡ Ok (n, i) → n ≡ known_version → source_in (outline i) ≡ Ok o → X) → X
+version_then {X} (Ok p) o h use_it = by (p.0 == known_version) refl h
   where
-    by : (b : Bool) → p.0 == VERSION ≡ b → ◌≡◌ {A = Result Source Fault} (if b then source_in (outline p.1) else Err (other_version p.0)) (Ok o) → X
-    by true e h = use_it p.0 p.1 refl (eqb-true p.0 VERSION e) h
+    by : (b : Bool) → p.0 == known_version ≡ b → ◌≡◌ {A = Result Source Fault} (if b then source_in (outline p.1) else Err (other_version p.0)) (Ok o) → X
+    by true e h = use_it p.0 p.1 refl (eqb-true p.0 known_version e) h
     by false e h = cc
 version_then (Err e) o h use_it = cc
 

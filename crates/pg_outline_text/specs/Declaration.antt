@@ -17,7 +17,7 @@ use Rattle.pg_program.specs.NameTable.{NameTable, find, is_full, with_name}
 use Rattle.pg_assertion_text.specs.Words.{is_reserved}
 use Rattle.pg_assertion_text.specs.Input.{Parser, ◌>>=◌, ◌>>◌, pure, refuse, allowed, peek, next, number, expect}
 use Rattle.pg_outline_text.specs.declared.word.Keyword.TheVariants as w
-use Rattle.pg_outline_text.specs.declared.declaration.TheConstants.{MAX_DECLARATIONS}
+use Rattle.pg_outline_text.specs.Limits.{declaration_turns}
 use Rattle.pg_outline_text.specs.Word.{is_keyword, expect_word}
 
 -- ---- new names
@@ -52,7 +52,7 @@ last_number = do
   n ← number
   (expect s.Semicolon >> pure n)
 
--- ---- declarations, behind their first words
+-- ---- declarations, after their first words
 
 unfoldable pub location : NameTable → Parser NameTable
 location names = do
@@ -95,4 +95,4 @@ declarations_on (suc n) names = do
   and_more (declarations_on n) names more
 
 abbrev pub declarations : NameTable → Parser NameTable
-declarations names = declarations_on MAX_DECLARATIONS names
+declarations names = declarations_on declaration_turns names

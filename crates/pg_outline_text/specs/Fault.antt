@@ -10,7 +10,7 @@ use Rattle.pg_outline.specs.Fault as outline
 use Rattle.pg_assertion_text.specs.Input.{Outcome}
 use Rattle.pg_outline_text.specs.declared.fault.FileFault.{FileFault}
 use Rattle.pg_outline_text.specs.declared.fault.FileFault.TheVariants.{Text, Version, Program, Outline, NoMemory}
-use Rattle.pg_outline_text.specs.declared.parse.TheConstants.{VERSION}
+use Rattle.pg_outline_text.specs.Limits.{known_version}
 use Rattle.pg_outline_text.specs.Source.{Source, program_of, draft}
 use Rattle.pg_outline_text.specs.Reading.{version, whole}
 use Rattle.pg_outline_text.specs.Reading as reading
@@ -51,9 +51,9 @@ abbrev pub source_in : Outcome Source → Result Source Fault
 source_in (Ok p) = Ok p.0
 source_in (Err f) = Err (of_text f)
 
--- no token behind another version is looked at
+-- no token after another version is looked at
 abbrev pub behind_version : Outcome ℕ → Result Source Fault
-behind_version (Ok p) = if p.0 == VERSION then source_in (reading.outline p.1) else Err (other_version p.0)
+behind_version (Ok p) = if p.0 == known_version then source_in (reading.outline p.1) else Err (other_version p.0)
 behind_version (Err f) = Err (of_text f)
 
 -- what a text is read as, or its first fault

@@ -20,7 +20,7 @@ use Rattle.pg_program_text.specs.Thread.{Lines}
 use Rattle.pg_program_text.specs.Grammar.{IsThreadText}
 use Rattle.pg_outline_text.specs.declared.word.Keyword.{Keyword}
 use Rattle.pg_outline_text.specs.declared.word.Keyword.TheVariants as w
-use Rattle.pg_outline_text.specs.declared.thread.TheConstants.{MAX_THREADS}
+use Rattle.pg_outline_text.specs.Limits.{known_version, most_threads}
 use Rattle.pg_outline_text.specs.Word.{spelling}
 use Rattle.pg_outline_text.specs.Source.{Source}
 
@@ -101,9 +101,9 @@ pub record IsSourceText (text : List ℕ) (o : Source) : Type 0 where
   pub threads_at : Cursor
   pub domain : ℕ
   pub head : Stand (empty_table domain)
-      (keyword w.Pierogi ∷ number 1 ∷ sign s.Semicolon ∷ keyword w.Values ∷ number domain ∷ sign s.Semicolon ∷ []) (start text) decls
+      (keyword w.Pierogi ∷ number known_version ∷ sign s.Semicolon ∷ keyword w.Values ∷ number domain ∷ sign s.Semicolon ∷ []) (start text) decls
   pub declared : AreDeclarations (empty_table domain) decls o.names pre_at
   pub pre : IsGiven IsRaw o.names w.Pre pre_at o.pre crash_at
   pub crash : IsGiven IsCrash o.names w.Crash crash_at o.crash threads_at
   pub threads : AreThreads o.names 1 threads_at o.threads
-  pub few : length o.threads ≤ MAX_THREADS
+  pub few : length o.threads ≤ most_threads

@@ -22,7 +22,7 @@ use Rattle.pg_assertion_text.specs.Parsing.{formula_at}
 use Rattle.pg_program_text.specs.Stmt.{behind}
 use Rattle.pg_program_text.specs.Thread.{Lines, thread_at}
 use Rattle.pg_outline_text.specs.declared.word.Keyword.TheVariants as w
-use Rattle.pg_outline_text.specs.declared.thread.TheConstants.{MAX_THREADS}
+use Rattle.pg_outline_text.specs.Limits.{most_threads}
 use Rattle.pg_outline_text.specs.Word.{is_keyword, expect_word}
 use Rattle.pg_outline_text.specs.Declaration.{last_number, declarations}
 use Rattle.pg_outline_text.specs.Source.{Source}
@@ -118,7 +118,7 @@ threads names = λ i. threads_on names (i.room + 1) [] i
 unfoldable pub domain : Parser ℕ
 domain = expect_word w.Values >> last_number
 
--- behind the declarations
+-- after the declarations
 unfoldable pub outline_over : NameTable → Parser Source
 outline_over names = do
   pre ← precondition names
@@ -126,7 +126,7 @@ outline_over names = do
   threads ← threads names
   pure (record { names = names; pre = pre; crash = crash; threads = threads })
 
--- behind the version
+-- after the version
 unfoldable pub outline : Parser Source
 outline = do
   d ← (expect s.Semicolon >> domain)
@@ -139,4 +139,4 @@ version = expect_word w.Pierogi >> number
 
 -- at the beginning of a text
 abbrev pub whole : List ℕ → Input
-whole text = record { cursor = start text; room = MAX_THREADS }
+whole text = record { cursor = start text; room = most_threads }

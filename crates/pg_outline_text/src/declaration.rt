@@ -73,7 +73,7 @@ fn declare(names: &mut Names, name: &str, kind: NameKind) -> Result<(), TextFaul
     }
 }
 
-/// Takes a number and the semicolon behind it.
+/// Takes a number and the semicolon after it.
 #[tactic(auto, unfolding(crate::specs::Declaration::last_number))]
 pub fn last_number(tokens: &mut Tokens<'_>) -> Result<u32, TextFault>
     ensures { Does (λ n. n) (spec.last_number tokens.old) result tokens.new }

@@ -15,7 +15,7 @@ use thiserror::Error;
 pub enum FileFault {
     #[error("{0}")]
     Text(TextFault),
-    /// The number behind `pierogi`.
+    /// The number after `pierogi`.
     #[error("the version {0} is not known")]
     Version(u32),
     #[error("{0}")]

@@ -12,7 +12,7 @@ use pg_lex::{Sign, TextFault};
 use pg_program::Names;
 use std::alloc::Global;
 
-/// A formula of an assertion, and the semicolon behind it.
+/// A formula of an assertion, and the semicolon after it.
 fn given_formula(
     alloc: Global,
     tokens: &mut Tokens<'_>,
@@ -27,7 +27,7 @@ fn given_formula(
     Ok(f)
 }
 
-/// A crash formula, and the semicolon behind it.
+/// A crash formula, and the semicolon after it.
 fn given_crash(
     alloc: Global,
     tokens: &mut Tokens<'_>,

@@ -43,7 +43,7 @@ fn domain(tokens: &mut Tokens<'_>) -> Result<u32, TextFault>
     last_number(tokens)
 }
 
-/// What stands behind the declarations of these names.
+/// What stands after the declarations of these names.
 #[tactic(auto, unfolding(crate::specs::Reading::outline_over))]
 fn source_over(alloc: Global, tokens: &mut Tokens<'_>, names: Names) -> Result<Source, TextFault>
     ensures { Reads as_source (spec.outline_over names tokens.old) result tokens.new }
@@ -59,7 +59,7 @@ fn source_over(alloc: Global, tokens: &mut Tokens<'_>, names: Names) -> Result<S
     })
 }
 
-/// What stands behind the version.
+/// What stands after the version.
 #[tactic(auto, unfolding(crate::specs::Reading::outline))]
 pub fn behind_version(alloc: Global, tokens: &mut Tokens<'_>) -> Result<Source, TextFault>
     ensures { Reads as_source (spec.outline tokens.old) result tokens.new }

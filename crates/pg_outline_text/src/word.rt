@@ -51,7 +51,7 @@ pub fn is_keyword(keyword: Keyword, token: &Token<'_>) -> bool
     }
 }
 
-/// Takes a word that has to come.
+/// Takes a word that has to come. After a fault the tokens may stand anywhere.
 #[tactic(auto, unfolding(crate::specs::Word::expect_word))]
 pub fn expect_word(tokens: &mut Tokens<'_>, keyword: Keyword) -> Result<(), TextFault>
     ensures { Does (λ u. u) (spec.expect_word keyword tokens.old) result tokens.new }
