@@ -18,10 +18,6 @@ append_both (Ok v) old mid new xs ys zs first is second =
     second ∙ (ap (λ l. l ++ ys) first ∙ (append_assoc old xs ys ∙ ap (λ l. old ++ l) (sym is)))
 append_both (Err e) old mid new xs ys zs first is second = tt
 
-pub append_one : {X T E : Type 0} (r : Result T E) (old new xs zs : List X) → zs ≡ xs → OnOk r (new ≡ old ++ xs) → OnOk r (new ≡ old ++ zs)
-append_one (Ok v) old new xs zs is h = h ∙ ap (λ l. old ++ l) (sym is)
-append_one (Err e) old new xs zs is h = tt
-
 pub append_three : {X T E : Type 0} (r : Result T E) (old one two new xs ys zs all : List X) → one ≡ old ++ xs → two ≡ one ++ ys → all ≡ xs ++ (ys ++ zs)
     → OnOk r (new ≡ two ++ zs) → OnOk r (new ≡ old ++ all)
 append_three r old one two new xs ys zs all first second is third =

@@ -1,9 +1,9 @@
 use Rattle.std.proofs.Common.{ap, sym, ◌∙◌, [], ◌∷◌, ◌++◌}
 use Rattle.pg_program.specs.Expr.{reads}
-use Rattle.pg_program.specs.declared.syntax.Act.TheVariants.{outs-Assign, outs-Store, outs-Load, outs-Cas}
+use Rattle.pg_program.specs.declared.syntax.Act.TheVariants.{outs-Assign, outs-Load, outs-Cas}
 use Rattle.pg_program.specs.Words.{outside}
 use Rattle.pg_program.proofs.ExprLemmas.{outside_at}
-use Rattle.pg_program.proofs.AppendLemmas.{owes_nothing, append_one, append_both, append_three}
+use Rattle.pg_program.proofs.AppendLemmas.{owes_nothing, append_both, append_three}
 use Rattle.pg_program.proofs.words.append_outside.Goals as goal
 
 pub returns-in_err-push-in-Assign : goal.returns-in_err-push-in-Assign
@@ -25,11 +25,6 @@ pub returns-in_ok-push-in-Assign : goal.returns-in_ok-push-in-Assign
 returns-in_ok-push-in-Assign c =
     append_both c.append_reads.result c.args.into.now.items c.push.new.self.items c.append_reads.new.into.items
     (c.in-Assign.target ∷ []) (reads c.in-Assign.expr) (outside c.args.stmt.now) c.in_ok-push-in-Assign.ensures.items (outside_at c.args.stmt.now _ _ c.in-Assign.is (outs-Assign c.in-Assign.target c.in-Assign.expr)) c.append_reads.ensures
-
-pub returns-in-Store : goal.returns-in-Store
-returns-in-Store c =
-    append_one c.append_reads-in-Store.result c.args.into.now.items c.append_reads-in-Store.new.into.items
-    (reads c.in-Store.expr) (outside c.args.stmt.now) (outside_at c.args.stmt.now _ _ c.in-Store.is (outs-Store c.in-Store.location c.in-Store.expr)) c.append_reads-in-Store.ensures
 
 pub returns-in_ok-push-in-Load : goal.returns-in_ok-push-in-Load
 returns-in_ok-push-in-Load c = c.in_ok-push-in-Load.ensures.items ∙ ap (λ l. c.args.into.now.items ++ l) (sym (outside_at c.args.stmt.now _ _ c.in-Load.is (outs-Load c.in-Load.target c.in-Load.location)))
