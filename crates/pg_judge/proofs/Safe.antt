@@ -15,7 +15,7 @@ use Rattle.pg_machine.specs.Step.{IsStep}
 use Rattle.pg_machine.proofs.StoreSteps.{after_store as stored, one_thread, step_stores}
 use Rattle.pg_machine.proofs.WellFormed.{All-constant, fresh_is_well_formed}
 use Rattle.pg_assertion.specs.declared.atom.ViewAtom.{ViewAtom}
-use Rattle.pg_assertion.specs.Formula.{Plain, top}
+use Rattle.pg_assertion.specs.Formula.{Plain, top, bottom}
 use Rattle.pg_views.specs.Formula.{holds}
 use Rattle.pg_views.specs.Crash.{HoldsAtCrash}
 use Rattle.pg_views.specs.Execution.{IsStart, Leads}
@@ -152,8 +152,8 @@ step o p s e next of all h is =
 
 -- ---- executions
 
-note-formula : (p : Path) (k : ℕ) → 1 ≤ k → k ≤ length p.notes → get_or (map formula_of p.notes) (k - 1) top ≡ formula_of (note p k)
-note-formula p k from to = get_or-map formula_of p.notes (k - 1) [] top (omega (arith, from, to))
+note-formula : (p : Path) (k : ℕ) → 1 ≤ k → k ≤ length p.notes → get_or (map formula_of p.notes) (k - 1) bottom ≡ formula_of (note p k)
+note-formula p k from to = get_or-map formula_of p.notes (k - 1) [] bottom (omega (arith, from, to))
 
 is_safe_in : (o : OutlineTable) (p : Path) (s : State) → IsOf o p → Holds o p s → IsSafeIn o s
 is_safe_in o p s of h = record {
@@ -163,7 +163,7 @@ is_safe_in o p s of h = record {
       let from = h.from in
       let to = h.to in
       subst (λ (n : ℕ). holds s (note_at o n (point_of s n)) ≡ true) (sym first)
-      (subst (λ (notes : List (List (Plain ViewAtom))). holds s (get_or (get_or notes 0 []) (point_of s 1 - 1) top) ≡ true) (sym of.notes)
+      (subst (λ (notes : List (List (Plain ViewAtom))). holds s (get_or (get_or notes 0 []) (point_of s 1 - 1) bottom) ≡ true) (sym of.notes)
       (subst (λ (f : Plain ViewAtom). holds s f ≡ true) (sym (note-formula p (point_of s 1) (omega (arith, from)) (omega (arith, from, to)))) h.holds));
   crash = subst (HoldsAtCrash s) (sym of.crash) (λ ps choice. refl);
 }

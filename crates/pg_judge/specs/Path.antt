@@ -1,6 +1,7 @@
 -- Outlines of the first form, their proof obligations, and when an obligation follows.
 use Rattle.std.specs.Prelude.{◌≡◌, ℕ, ◌+◌, ◌-◌, ◌*◌, ◌/◌, ◌%◌, ◌<◌, ◌≤◌, ◌==◌, Bool, true, not, List, [], length, map, All, slice_index, slice_index_or, slice_set, unwrap_or, if◌then◌else◌}
 use Rattle.std.specs.List.{list_all}
+use Rattle.pg_program.specs.Limits.{most_points}
 use Rattle.pg_program.specs.NameTable.{initial}
 use Rattle.pg_program.specs.Straight.{straight}
 use Rattle.pg_judge.specs.declared.outline.PathLit.{PathLit}
@@ -38,7 +39,7 @@ pub record IsPath (p : Path) : Type 0 where
 
 -- the stores of an outline's program are at most 31, to declared locations
 pub record HasStores (o : PathOutline) : Type 0 where
-  pub few : length (path o).stores < 32
+  pub few : length (path o).stores < most_points
   pub declared : All (λ s. s.0 < length (initial o.program.now.names)) (path o).stores
 
 -- a valuation gives each location one value of the domain

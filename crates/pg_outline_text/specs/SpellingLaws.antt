@@ -7,7 +7,7 @@ use Rattle.pg_assertion.specs.Formula.{Plain}
 use Rattle.pg_assertion_text.specs.Spelling.{AreNames}
 use Rattle.pg_assertion_text.specs.SpellingLaws.{IsWritable, IsWritableCrash}
 use Rattle.pg_assertion_text.specs.Within.{IsWithin}
-use Rattle.pg_program_text.specs.declared.thread.TheConstants.{MAX_POINTS}
+use Rattle.pg_program_text.specs.Limits.{most_points}
 use Rattle.pg_program_text.specs.SpellingLaws.{WholeThread}
 use Rattle.pg_outline.specs.Outline.{OutlineTable}
 use Rattle.pg_outline.specs.Made.{IsOutline}
@@ -17,7 +17,7 @@ use Rattle.pg_outline_text.specs.Text.{StandsFor}
 -- a thread within the limits of a text
 pub record FitsThread (names : NameTable) (ss : List Stmt) (notes : List (Plain ViewAtom)) : Type 0 where
   pub whole : WholeThread names ss notes
-  pub few : length notes ≤ MAX_POINTS
+  pub few : length notes ≤ most_points
 
 abbrev pub FitThreads : NameTable → List (List Stmt) → List (List (Plain ViewAtom)) → Type 0
 FitThreads names [] [] = Unit {0}

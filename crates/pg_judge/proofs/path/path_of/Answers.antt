@@ -23,8 +23,8 @@ returns c =
     (record {
       made = c.program-program.ensures.made;
       stores = subst IsStraight same (c.is_straight.ensures.0 c.if-not-is_straight.false);
-      crash = sym c.crash.ensures ∙ c.is_true.ensures.0 c.if-not-is_true.false;
-      pre = subst (λ (f : Plain ViewAtom). IsConjunctionOf f pre.items) c.pre.ensures read;
+      crash = sym c.crash.ensures.formula ∙ c.is_true.ensures.0 c.if-not-is_true.false;
+      pre = subst (λ (f : Plain ViewAtom). IsConjunctionOf f pre.items) c.pre.ensures.formula read;
       notes = rows.0;
       few = rows.1;
     })
