@@ -4,7 +4,7 @@ use Rattle.pg_io.specs.Counts.{Rose}
 use Rattle.pg_io.specs.Written.{appended, AppendsPart}
 use Rattle.pg_outline_text.specs.declared.fault.FileFault.{FileFault}
 use Rattle.pg_outline_text.specs.declared.fault.FileFault.TheVariants.{NoMemory}
-use Rattle.pg_outline_text.specs.Fault.{Fault, told, first_fault, IsToldOrMemory}
+use Rattle.pg_outline_text.specs.Fault.{Fault, plain_fault, first_fault, IsFaultOrMemory}
 use Rattle.pg_report.specs.Refusal.{refusal, line_of}
 use Rattle.pg_app.specs.Answer.{Answers}
 use Rattle.pg_app.specs.Put.{Puts}
@@ -13,8 +13,8 @@ some_fault : (t : Option Fault) → (t ≡ None → ⊥) → IsSome t
 some_fault None h = absurd (h refl)
 some_fault (Some f) h = refl
 
-pub tells_some : (e : FileFault) → e ≢ NoMemory → IsToldOrMemory e → IsSome (told e)
-tells_some e real is = some_fault (told e) (λ none. real (is none))
+pub tells_some : (e : FileFault) → e ≢ NoMemory → IsFaultOrMemory e → IsSome (plain_fault e)
+tells_some e real is = some_fault (plain_fault e) (λ none. real (is none))
 
 refused : (bytes : List ℕ) (f : Fault) → first_fault bytes ≡ Some f → Answers bytes 3 (refusal f)
 refused bytes f first = inr (inr (inr (record { fault = f; first = first; status_is = refl; text_is = refl })))

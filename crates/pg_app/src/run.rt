@@ -9,7 +9,7 @@ ghost use Rattle.pg_io.specs.Counts.{Rose, RoseBy};
 ghost use Rattle.pg_io.specs.Written.{appended};
 ghost use Rattle.pg_app.specs.Line.{usage, too_long};
 ghost use Rattle.pg_app.specs.Answer.{longest_file, name_of, Answers};
-ghost use Rattle.pg_outline_text.specs.Fault.{IsToldOrMemory};
+ghost use Rattle.pg_outline_text.specs.Fault.{IsFaultOrMemory};
 ghost use Rattle.pg_outline_text.specs.Text.{StandsFor, Tells};
 ghost use Rattle.pg_app.specs.Outcome.{status_of};
 ghost use Rattle.pg_app.specs.Put.{Puts};
@@ -161,7 +161,7 @@ fn outcome_status(outcome: Outcome) -> u8
 
 // Answers a file with this first fault.
 fn answer_fault<K: Sink>(alloc: Global, fault: &FileFault, out: &mut K) -> u8
-    ensures { (bytes : List ℕ) → Tells bytes fault.now → IsToldOrMemory fault.now → Puts (Answers bytes)
+    ensures { (bytes : List ℕ) → Tells bytes fault.now → IsFaultOrMemory fault.now → Puts (Answers bytes)
         result (K.written out.old) (K.written out.new) (K.faults out.old) (K.faults out.new) }
 {
     match fault {
@@ -173,7 +173,7 @@ fn answer_fault<K: Sink>(alloc: Global, fault: &FileFault, out: &mut K) -> u8
 // Puts the line of a fault that is none of memory.
 fn refuse<K: Sink>(alloc: Global, fault: &FileFault, out: &mut K) -> u8
     requires { fault.now ≢ FileFault.NoMemory }
-    ensures { (bytes : List ℕ) → Tells bytes fault.now → IsToldOrMemory fault.now → Puts (Answers bytes)
+    ensures { (bytes : List ℕ) → Tells bytes fault.now → IsFaultOrMemory fault.now → Puts (Answers bytes)
         result (K.written out.old) (K.written out.new) (K.faults out.old) (K.faults out.new) }
 {
     match report_file_fault(alloc, fault, out) {

@@ -1,7 +1,7 @@
 -- The lists of locations with a value, and what is made of them: their lengths, and what stands at which place.
 use Rattle.std.proofs.Common.{◌≡◌, ℕ, ◌+◌, ◌-◌, ◌*◌, ◌<◌, List, length, Some, ap, ◌∙◌, arith}
 use Rattle.std.specs.List.{slice_get, flat_map}
-use Rattle.pg_assertion.specs.Layout.{Sizes, IsThread, values, locations, threads, cells, seen_cells, cell_pairs, thread_locations, cell_place, seen_place, pair_place, view_place}
+use Rattle.pg_assertion.specs.Layout.{Sizes, IsThreadNumber, values, locations, threads, cells, seen_cells, cell_pairs, thread_locations, cell_place, seen_place, pair_place, view_place}
 use Rattle.pg_assertion.proofs.LayoutPlaces.{length-rows, stands_in_rows, InRows, of_rows, grid, length-grid, stands_in_grid, InGrid, of_grid, nested_place}
 
 -- Locations with a value, these for each thread, pairs of them, and locations for each thread; `g` is any kind.
@@ -28,14 +28,14 @@ pub stands_in_cells : {A : Type 0} (l : Sizes) (g : ℕ → ℕ → A) (x v : �
 stands_in_cells l g x v p q =
     stands_in_grid g 0 l.locations l.domain x v p q ∙ ap (λ y. Some (g y v)) (omega arith)
 
-pub stands_in_seen : {A : Type 0} (l : Sizes) (g : ℕ → ℕ → ℕ → A) (t x v : ℕ) → IsThread l t → x < l.locations → v < l.domain
+pub stands_in_seen : {A : Type 0} (l : Sizes) (g : ℕ → ℕ → ℕ → A) (t x v : ℕ) → IsThreadNumber l t → x < l.locations → v < l.domain
     → slice_get (seen_list l g) (seen_place l t x v) ≡ Some (g t x v)
 stands_in_seen l g t x v is p q =
     let s : 1 + (t - 1) ≡ t = omega (arith, is.first) in
     stands_in_rows (λ u. cell_list l (g u)) (cells l) 1 l.threads (t - 1) (cell_place l x v) (g t x v)
     (λ u. length-cell_list l (g u)) (omega (arith, is.first, is.last)) (rw s (stands_in_cells l (g t) x v p q))
 
-pub stands_in_views : {A : Type 0} (l : Sizes) (g : ℕ → ℕ → A) (t x : ℕ) → IsThread l t → x < l.locations
+pub stands_in_views : {A : Type 0} (l : Sizes) (g : ℕ → ℕ → A) (t x : ℕ) → IsThreadNumber l t → x < l.locations
     → slice_get (view_list l g) (view_place l t x) ≡ Some (g t x)
 stands_in_views l g t x is p =
     stands_in_grid g 1 l.threads l.locations (t - 1) x (omega (arith, is.first, is.last)) p
@@ -66,13 +66,13 @@ pub record IsSeen {A : Type 0} (l : Sizes) (g : ℕ → ℕ → ℕ → A) (i : 
   pub t : ℕ
   pub x : ℕ
   pub v : ℕ
-  pub is_thread : IsThread l t
+  pub is_thread : IsThreadNumber l t
   pub x_below : x < l.locations
   pub v_below : v < l.domain
   pub place : i ≡ seen_place l t x v
   pub is : g t x v ≡ e
 
-thread_from : (l : Sizes) (row : ℕ) → row < l.threads → IsThread l (1 + row)
+thread_from : (l : Sizes) (row : ℕ) → row < l.threads → IsThreadNumber l (1 + row)
 thread_from l row below = record { first = omega arith; last = omega arith }
 
 pub of_seen : {A : Type 0} (l : Sizes) (g : ℕ → ℕ → ℕ → A) (i : ℕ) (e : A) → slice_get (seen_list l g) i ≡ Some e → IsSeen l g i e
@@ -98,7 +98,7 @@ of_seen l g i e h = by (of_rows (λ u. cell_list l (g u)) (cells l) 1 l.threads 
 pub record IsView {A : Type 0} (l : Sizes) (g : ℕ → ℕ → A) (i : ℕ) (e : A) : Type 0 where
   pub t : ℕ
   pub x : ℕ
-  pub is_thread : IsThread l t
+  pub is_thread : IsThreadNumber l t
   pub x_below : x < l.locations
   pub place : i ≡ view_place l t x
   pub is : g t x ≡ e
@@ -183,7 +183,7 @@ pub length-pair_list : {A : Type 0} (l : Sizes) (g : ℕ → ℕ → ℕ → ℕ
 length-pair_list l g =
     length-rows (λ t. cell_rows l (λ x v. cell_list l (g t x v))) (cells l * cells l) 1 l.threads (length-of_thread l g) ∙ omega arith
 
-pub stands_in_pairs : {A : Type 0} (l : Sizes) (g : ℕ → ℕ → ℕ → ℕ → ℕ → A) (t x v y w : ℕ) → IsThread l t → x < l.locations → v < l.domain
+pub stands_in_pairs : {A : Type 0} (l : Sizes) (g : ℕ → ℕ → ℕ → ℕ → ℕ → A) (t x v y w : ℕ) → IsThreadNumber l t → x < l.locations → v < l.domain
     → y < l.locations → w < l.domain → slice_get (pair_list l g) (pair_place l t x v y w) ≡ Some (g t x v y w)
 stands_in_pairs l g t x v y w is p q r u =
     let s : 1 + (t - 1) ≡ t = omega (arith, is.first) in
@@ -199,7 +199,7 @@ pub record IsPair {A : Type 0} (l : Sizes) (g : ℕ → ℕ → ℕ → ℕ → 
   pub v : ℕ
   pub y : ℕ
   pub w : ℕ
-  pub is_thread : IsThread l t
+  pub is_thread : IsThreadNumber l t
   pub x_below : x < l.locations
   pub v_below : v < l.domain
   pub y_below : y < l.locations

@@ -35,7 +35,7 @@ abbrev pub threads : Sizes → List ℕ
 threads l = range_with_len 1 l.threads
 
 -- a thread is one of 1 to their number
-pub record IsThread (l : Sizes) (t : ℕ) : Type 0 where
+pub record IsThreadNumber (l : Sizes) (t : ℕ) : Type 0 where
   pub first : 1 ≤ t
   pub last : t ≤ l.threads
 
@@ -43,13 +43,13 @@ pub record IsThread (l : Sizes) (t : ℕ) : Type 0 where
 abbrev pub IsAtom : Sizes → ViewAtom → Type 0
 IsAtom l (Scalar r k) = (r < l.scalars) × (k < l.domain)
 IsAtom l (Last x v) = (x < l.locations) × (v < l.domain)
-IsAtom l (Read t x v) = IsThread l t × (x < l.locations) × (v < l.domain)
+IsAtom l (Read t x v) = IsThreadNumber l t × (x < l.locations) × (v < l.domain)
 IsAtom l (Persist x v) = (x < l.locations) × (v < l.domain)
-IsAtom l (Async t x v) = IsThread l t × (x < l.locations) × (v < l.domain)
-IsAtom l (Then t x v y w) = IsThread l t × (x < l.locations) × (v < l.domain) × (y < l.locations) × (w < l.domain)
-IsAtom l (Newest t x) = IsThread l t × (x < l.locations)
-IsAtom l (Ordered t x) = IsThread l t × (x < l.locations)
-IsAtom l (Fenced t x) = IsThread l t × (x < l.locations)
+IsAtom l (Async t x v) = IsThreadNumber l t × (x < l.locations) × (v < l.domain)
+IsAtom l (Then t x v y w) = IsThreadNumber l t × (x < l.locations) × (v < l.domain) × (y < l.locations) × (w < l.domain)
+IsAtom l (Newest t x) = IsThreadNumber l t × (x < l.locations)
+IsAtom l (Ordered t x) = IsThreadNumber l t × (x < l.locations)
+IsAtom l (Fenced t x) = IsThreadNumber l t × (x < l.locations)
 
 -- The atoms of a kind, by their arguments as written, the first slowest.
 abbrev pub scalar_atoms : Sizes → List ViewAtom

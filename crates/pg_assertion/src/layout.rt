@@ -5,7 +5,7 @@
 
 ghost use Rattle.std.specs.Prelude.{◌≡◌, ℕ, ◌+◌, ◌*◌, ◌<◌, ◌≤◌};
 ghost use Rattle.pg_assertion.specs.declared.layout.Side.{Side};
-ghost use Rattle.pg_assertion.specs.Layout.{IsWithinLimits, IsAtom, IsThread, number, number_on, place_of, atoms, AtomsStandInOrder, PlacesAreNumbers, AtomsAreCounted, LargestHasMost, NumbersTellAtomsApart, NumbersHaveNoGap, NumbersTellSidesApart};
+ghost use Rattle.pg_assertion.specs.Layout.{IsWithinLimits, IsAtom, IsThreadNumber, number, number_on, place_of, atoms, AtomsStandInOrder, PlacesAreNumbers, AtomsAreCounted, LargestHasMost, NumbersTellAtomsApart, NumbersHaveNoGap, NumbersTellSidesApart};
 
 use crate::atom::ViewAtom;
 use pg_program::Names;
@@ -285,7 +285,7 @@ impl Layout {
     }
 
     fn seen_place(&self, t: u8, x: u8, v: u8) -> u32
-        requires { IsThread self.now t × (x < self.now.locations) × (v < self.now.domain) }
+        requires { IsThreadNumber self.now t × (x < self.now.locations) × (v < self.now.domain) }
         ensures place { result ≡ seen_place self.now t x v }
         ensures within { result < seen_cells self.now }
         ensures few { result < 192 }
@@ -303,7 +303,7 @@ impl Layout {
     }
 
     fn view_place(&self, t: u8, x: u8) -> u32
-        requires { IsThread self.now t × (x < self.now.locations) }
+        requires { IsThreadNumber self.now t × (x < self.now.locations) }
         ensures place { result ≡ view_place self.now t x }
         ensures within { result < thread_locations self.now }
         ensures few { result < 32 }
@@ -333,7 +333,7 @@ impl Layout {
 
     fn seen_at(&self, place: u32) -> (u8, u8, u8)
         requires { place < seen_cells self.now }
-        ensures thread { IsThread self.now result.0 }
+        ensures thread { IsThreadNumber self.now result.0 }
         ensures location { result.1 < self.now.locations }
         ensures value { result.2 < self.now.domain }
         ensures place { seen_place self.now result.0 result.1 result.2 ≡ place }
@@ -354,7 +354,7 @@ impl Layout {
 
     fn view_at(&self, place: u32) -> (u8, u8)
         requires { place < thread_locations self.now }
-        ensures thread { IsThread self.now result.0 }
+        ensures thread { IsThreadNumber self.now result.0 }
         ensures location { result.1 < self.now.locations }
         ensures place { view_place self.now result.0 result.1 ≡ place }
     {

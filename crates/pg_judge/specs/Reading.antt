@@ -51,6 +51,6 @@ pub record IsPathOf (o : OutlineTable) (p : PathOutline) : Type 0 where
   pub path : IsPath (path p)
 
 -- an outline has a path exactly where it is of the first form
-abbrev pub HasPath : OutlineTable → Option PathOutline → Type 0
-HasPath o (Some p) = IsPathOf o p
-HasPath o None = IsOfForm o → ⊥
+abbrev pub FindsPath : OutlineTable → Option PathOutline → Type 0
+FindsPath o (Some p) = IsPathOf o p
+FindsPath o None = IsOfForm o → ⊥

@@ -6,7 +6,7 @@ ghost use Rattle.pg_assertion.specs.Formula.{plain, top};
 ghost use Rattle.pg_program.specs.Straight.{store_of};
 ghost use Rattle.pg_outline.specs.Made.{IsOutline};
 ghost use Rattle.pg_judge.specs.Form.{IsConjunctionOf};
-ghost use Rattle.pg_judge.specs.Reading.{Finds, last_in, literal_in, AreLiterals, AreNotes, IsStraight, HasPath};
+ghost use Rattle.pg_judge.specs.Reading.{Finds, last_in, literal_in, AreLiterals, AreNotes, IsStraight, FindsPath};
 
 use crate::outline::{PathLit, PathOutline};
 use pg_assertion::{CrashAtom, Formula, ViewAtom};
@@ -21,7 +21,7 @@ pub const MAX_LITERALS: usize = 128;
 /// register and no auxiliary, the crash formula `true`, and in the precondition and at each point a conjunction of at most 128
 /// literals on last values, grouped to the left.
 pub fn path_of<'a>(alloc: Global, o: &'a Outline) -> Result<Option<PathOutline<'a>>, AllocError>
-    ensures { IfOk result (HasPath o.now) }
+    ensures { IfOk result (FindsPath o.now) }
 {
     let program = o.program();
     if !is_straight(program) || !is_true(o.crash()) {

@@ -11,7 +11,7 @@ use Rattle.pg_assertion.specs.declared.atom.CrashAtom.TheVariants as crash
 use Rattle.pg_assertion.specs.declared.atom.RawAtom.{RawAtom}
 use Rattle.pg_assertion.specs.Formula.{Plain, top, bottom, atom, neg, both, either, implies, AllAtoms, with_atoms}
 use Rattle.pg_assertion.specs.Atom.{raw_of, RawDeclared}
-use Rattle.pg_assertion.specs.Layout.{Sizes, sizes, IsAtom, IsThread}
+use Rattle.pg_assertion.specs.Layout.{Sizes, sizes, IsAtom, IsThreadNumber}
 use Rattle.pg_assertion.specs.Expansion.{mentions, named, vectors, constant, fill, conjunction, can_persist, term, expansion_over, expansion, IsAtomOf, value_in}
 use Rattle.pg_outline.specs.declared.fault.OutlineFault.TheVariants.{UnknownThread}
 use Rattle.pg_outline.specs.Outline.{OutlineTable, IsSmall, draft_of}
@@ -26,10 +26,10 @@ module _ (names : NameTable) (n : ℕ) where
   abbrev Speaks : Plain ViewAtom → Type 0
   Speaks f = AllAtoms (IsAtom (sizes names n)) f
 
-  thread_inside : (t : ℕ) → thread_fault n t ≡ None → IsThread (sizes names n) t
+  thread_inside : (t : ℕ) → thread_fault n t ≡ None → IsThreadNumber (sizes names n) t
   thread_inside t h = by (nat_le 1 t) (nat_le t n) refl refl h
     where
-      by : (a b : Bool) → nat_le 1 t ≡ a → nat_le t n ≡ b → ◌≡◌ {A = Fault} (if a && b then None else Some (UnknownThread t)) None → IsThread (sizes names n) t
+      by : (a b : Bool) → nat_le 1 t ≡ a → nat_le t n ≡ b → ◌≡◌ {A = Fault} (if a && b then None else Some (UnknownThread t)) None → IsThreadNumber (sizes names n) t
       by true true e f g = record { first = leb-true 1 t e; last = leb-true t n f }
       by true false e f g = cc
       by false b e f g = cc

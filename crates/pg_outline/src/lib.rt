@@ -15,4 +15,4 @@ mod view;
 
 pub use erasure::erase;
 pub use fault::OutlineFault;
-pub use outline::{MAX_CRASH_LOCATIONS, MAX_NODES, Outline};
+pub use outline::{MAX_CRASH_LOCATIONS, Outline};

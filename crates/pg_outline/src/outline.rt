@@ -18,9 +18,6 @@ use pg_program::{Names, PointId, Program};
 use std::alloc::Global;
 use std::marker::Model;
 
-/// The most nodes that a formula may have.
-pub const MAX_NODES: u64 = 512;
-
 /// The most locations that a crash formula may name.
 pub const MAX_CRASH_LOCATIONS: usize = 3;
 

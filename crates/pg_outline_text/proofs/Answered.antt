@@ -9,7 +9,7 @@ use Rattle.pg_outline.specs.Fault as outline
 use Rattle.pg_outline_text.specs.declared.fault.FileFault.{FileFault}
 use Rattle.pg_outline_text.specs.declared.fault.FileFault.TheVariants.{NoMemory}
 use Rattle.pg_outline_text.specs.Source.{Source, program_of, draft, IsMadeOf}
-use Rattle.pg_outline_text.specs.Fault.{Fault, of_program, of_outline, told, first_of, fault_in, fault_of, source_of, IsToldOrMemory}
+use Rattle.pg_outline_text.specs.Fault.{Fault, of_program, of_outline, plain_fault, first_of, fault_in, fault_of, source_of, IsFaultOrMemory}
 use Rattle.pg_outline_text.specs.Text.{StandsFor, HasOneReading, HasNoFault, IsFaultless, FaultlessTextsAreReady}
 use Rattle.pg_outline_text.proofs.TextSound.{source_found}
 use Rattle.pg_outline_text.proofs.TextComplete.{source_reads}
@@ -18,7 +18,7 @@ use Rattle.pg_outline_text.proofs.ReadyTexts.{source_ready}
 
 -- an outline, or a fault of what was read
 abbrev pub Makes : Source → Result OutlineTable FileFault → Type 0
-Makes s r = MatchResult r (IsMadeOf s) (λ e. IfSome (told e) (λ f. fault_in s ≡ Some f))
+Makes s r = MatchResult r (IsMadeOf s) (λ e. IfSome (plain_fault e) (λ f. fault_in s ≡ Some f))
 
 pub answer_found : (bytes : List ℕ) (s : Source) (r : Result OutlineTable FileFault) → source_of bytes ≡ Ok s → Makes s r → IfOk r (λ o. StandsFor bytes o)
 answer_found bytes s (Ok o) is made = record { source = s; text = source_found bytes s is; made = made }
@@ -44,14 +44,14 @@ module _ (bytes : List ℕ) (s : Source) where
   tells_none e None h none = refl
   tells_none e (Some f) h none = cc
 
-  pub answer_only : (r : Result OutlineTable FileFault) → source_of bytes ≡ Ok s → Makes s r → IfErr r IsToldOrMemory → (o : OutlineTable) → StandsFor bytes o
+  pub answer_only : (r : Result OutlineTable FileFault) → source_of bytes ≡ Ok s → Makes s r → IfErr r IsFaultOrMemory → (o : OutlineTable) → StandsFor bytes o
       → MatchResult r (λ p. p ≡ o) (λ e. e ≡ NoMemory)
   answer_only (Ok p) is made memory o st = one_outline p o (made.parts ∙ ap draft (sym (source_is o st is)) ∙ sym st.made.parts)
-  answer_only (Err e) is made memory o st = memory (tells_none e (told e) made (no_fault o st is))
+  answer_only (Err e) is made memory o st = memory (tells_none e (plain_fault e) made (no_fault o st is))
 
 -- a text that stands for something has no fault of its tokens
-pub reading_only : (bytes : List ℕ) (e : FileFault) → IfSome (told e) (λ f. source_of bytes ≡ Err f) → IsToldOrMemory e → (o : OutlineTable) → StandsFor bytes o → e ≡ NoMemory
-reading_only bytes e fails memory o st = memory (by (told e) fails)
+pub reading_only : (bytes : List ℕ) (e : FileFault) → IfSome (plain_fault e) (λ f. source_of bytes ≡ Err f) → IsFaultOrMemory e → (o : OutlineTable) → StandsFor bytes o → e ≡ NoMemory
+reading_only bytes e fails memory o st = memory (by (plain_fault e) fails)
   where
     by : (g : Option Fault) → IfSome g (λ f. source_of bytes ≡ Err f) → g ≡ None
     by None h = refl

@@ -16,7 +16,7 @@ use Rattle.pg_outline.specs.Outline.{OutlineTable, Draft, IsDraft, draft_of}
 use Rattle.pg_outline.specs.Fault as outline
 use Rattle.pg_outline_text.specs.Source.{Source, program_of, draft, IsMadeOf}
 use Rattle.pg_outline_text.specs.Ready.{IsReady}
-use Rattle.pg_outline_text.specs.Fault.{of_program, of_outline, first_of, fault_in, outline_told}
+use Rattle.pg_outline_text.specs.Fault.{of_program, of_outline, first_of, fault_in, plain_outline_fault}
 
 -- the statements and the notes of bodies that were read
 pub stmts_of : (ts : List ThreadText) → map (λ t. (lines t).stmts) ts ≡ map (λ l. l.stmts) (map lines ts)
@@ -60,7 +60,7 @@ module _ (s : Source) where
       ∙ ap (option_map of_outline) (ap outline.first_fault (sym is) ∙ h)
 
   pub outline_tells : (d : Draft) (e : OutlineFault) → d ≡ draft s → program_fault ≡ None → (e ≢ NoMemory → outline.first_fault d ≡ Some e)
-      → IfSome (outline_told e) (λ f. fault_in s ≡ Some f)
+      → IfSome (plain_outline_fault e) (λ f. fault_in s ≡ Some f)
   outline_tells d NoMemory is faultless h = tt
   outline_tells d (ValueOutOfDomain v) is faultless h = outline_fails d (ValueOutOfDomain v) is faultless (h (λ (e : ValueOutOfDomain v ≡ NoMemory). cc))
   outline_tells d (UnknownThread t) is faultless h = outline_fails d (UnknownThread t) is faultless (h (λ (e : UnknownThread t ≡ NoMemory). cc))

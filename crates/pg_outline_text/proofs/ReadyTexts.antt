@@ -26,7 +26,7 @@ use Rattle.pg_outline.specs.Outline.{IsSmall}
 use Rattle.pg_outline_text.specs.declared.word.Keyword.{Keyword}
 use Rattle.pg_outline_text.specs.Source.{Source}
 use Rattle.pg_outline_text.specs.Ready.{IsReady}
-use Rattle.pg_outline_text.specs.Grammar.{IsGiven, left_out, written, IsThread, AreThreads, last_one, one_thread, IsSourceText}
+use Rattle.pg_outline_text.specs.Grammar.{IsGiven, left_out, written, IsThreadOfText, AreThreads, last_one, one_thread, IsSourceText}
 
 -- ---- formulas
 
@@ -59,7 +59,7 @@ record Ready (names : NameTable) (ls : List Lines) : Type 0 where
 no_threads : (names : NameTable) → (All (program.IsThread names) []) × (All (All (IsSmall (RawDeclared names))) [])
 no_threads names = (All-nil (program.IsThread names), All-nil (All (IsSmall (RawDeclared names))))
 
-one_ready : (names : NameTable) (k : ℕ) (from to : Cursor) (l : Lines) (ls : List Lines) → IsThread names k from l to
+one_ready : (names : NameTable) (k : ℕ) (from to : Cursor) (l : Lines) (ls : List Lines) → IsThreadOfText names k from l to
     → All (program.IsThread names) (map (λ l. l.stmts) ls) → All (All (IsSmall (RawDeclared names))) (map (λ l. l.notes) ls)
     → map length (map (λ (l : Lines). l.notes) ls) ≡ map (λ ss. size (block ss) + 1) (map (λ (l : Lines). l.stmts) ls) → Ready names (l ∷ ls)
 one_ready names k from to l ls is each notes points =

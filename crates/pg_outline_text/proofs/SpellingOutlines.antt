@@ -42,7 +42,7 @@ use Rattle.pg_outline_text.specs.declared.word.Keyword.{Keyword}
 use Rattle.pg_outline_text.specs.declared.word.Keyword.TheVariants as w
 use Rattle.pg_outline_text.specs.Word.{spelling}
 use Rattle.pg_outline_text.specs.Source.{Source, draft, IsMadeOf}
-use Rattle.pg_outline_text.specs.Grammar.{keyword, AreDeclarations, IsGiven, left_out, written, IsEnd, IsThread, AreThreads, last_one, one_thread}
+use Rattle.pg_outline_text.specs.Grammar.{keyword, AreDeclarations, IsGiven, left_out, written, IsEnd, IsThreadOfText, AreThreads, last_one, one_thread}
 use Rattle.pg_outline_text.specs.Spelling.{is_top, given_line, thread_lines, first_notes, threads_lines, version_line, domain_line, head_lines, spell_outline}
 use Rattle.pg_outline_text.specs.SpellingLaws.{FitsThread, FitThreads, IsWritableOutline, CanonicalTextStands}
 use Rattle.pg_outline_text.proofs.SpellingLines.{before, keyword_stands, one_stands, semicolon_line, open_line, close_line}
@@ -127,7 +127,7 @@ unfolding begins keywords.keyword input.named
 brace_begins_none names c to h = record { lexeme = h.lexeme; read = h.read; begins_none = rw h.matches refl }
 
 thread_written : (names : NameTable) (k : ℕ) (ss : List Stmt) (notes : List (Plain ViewAtom)) → Small k → FitsThread names ss notes
-    → Written (λ from to. IsThread names k from (lines_of ss notes) to) (thread_lines names k ss notes)
+    → Written (λ from to. IsThreadOfText names k from (lines_of ss notes) to) (thread_lines names k ss notes)
 thread_written names k ss notes small fits =
     changed
     (before (keyword_stands names w.Thread)

@@ -29,7 +29,7 @@ use Rattle.pg_program_text.specs.declared.thread.TheConstants.{MAX_POINTS}
 use Rattle.pg_program_text.specs.Thread.{Lines}
 use Rattle.pg_program_text.proofs.Whole.{bodies_are_whole}
 use Rattle.pg_outline_text.specs.declared.word.Keyword.{Keyword}
-use Rattle.pg_outline_text.specs.Grammar.{IsNewName, IsDeclaration, a_location, a_register, an_auxiliary, AreDeclarations, no_more, one_more, IsGiven, left_out, written, IsThread, AreThreads, last_one, one_thread}
+use Rattle.pg_outline_text.specs.Grammar.{IsNewName, IsDeclaration, a_location, a_register, an_auxiliary, AreDeclarations, no_more, one_more, IsGiven, left_out, written, IsThreadOfText, AreThreads, last_one, one_thread}
 use Rattle.pg_outline_text.specs.SpellingLaws.{FitsThread, FitThreads, WhatStandsIsWritable}
 
 -- ---- names
@@ -96,7 +96,7 @@ crash_within names k _ _ _ (written f from mid end to st is rest) = crash_formul
 abbrev raws : List (Plain ViewAtom) → List (Plain RawAtom)
 raws ns = map (with_atoms raw_of) ns
 
-thread_fits : (names : NameTable) (k : ℕ) (from : Cursor) (l : Lines) (to : Cursor) (ns : List (Plain ViewAtom)) → WellNamed names → IsThread names k from l to → raws ns ≡ l.notes
+thread_fits : (names : NameTable) (k : ℕ) (from : Cursor) (l : Lines) (to : Cursor) (ns : List (Plain ViewAtom)) → WellNamed names → IsThreadOfText names k from l to → raws ns ≡ l.notes
     → FitsThread names l.stmts ns
 thread_fits names k from l to ns well is same =
     let long : length ns ≡ length l.notes = sym (length-map ns (with_atoms raw_of)) ∙ ap length same in

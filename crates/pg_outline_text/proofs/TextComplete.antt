@@ -29,7 +29,7 @@ use Rattle.pg_outline_text.specs.Declaration.{declarations}
 use Rattle.pg_outline_text.specs.Reading.{precondition, crash_formula, opens_thread, opened, own_number_in, own_number, end_fault, close, thread, is_end, threads_on, threads, domain, outline_over, outline, whole}
 use Rattle.pg_outline_text.specs.Source.{Source}
 use Rattle.pg_outline_text.specs.Fault.{source_in, behind_version, source_of}
-use Rattle.pg_outline_text.specs.Grammar.{keyword, IsGiven, left_out, written, IsThread, AreThreads, last_one, one_thread, IsSourceText}
+use Rattle.pg_outline_text.specs.Grammar.{keyword, IsGiven, left_out, written, IsThreadOfText, AreThreads, last_one, one_thread, IsSourceText}
 use Rattle.pg_outline_text.proofs.Keywords.{keyword_told, keyword_is}
 use Rattle.pg_outline_text.proofs.HeadComplete.{version_reads, domain_reads, DeclaresNone, declarations_read, IsNot, given_reads}
 
@@ -59,7 +59,7 @@ close_reads names r from to st =
     ∙ ap (λ z. (if is_sign s.CloseBrace z then pure tt else refuse st.lexeme.place (end_fault (named names st.lexeme))) (at to r)) st.matches
     ∙ ap (λ b. (if b then pure tt else refuse st.lexeme.place (end_fault (named names st.lexeme))) (at to r)) (sign_is_same s.CloseBrace)
 
-thread_is_read : (names : NameTable) (k r : ℕ) (from to : Cursor) (l : Lines) → IsThread names k from l to → 0 < r → thread names k (at from r) ≡ Ok (l, at to (r - 1))
+thread_is_read : (names : NameTable) (k r : ℕ) (from to : Cursor) (l : Lines) → IsThreadOfText names k from l to → 0 < r → thread names k (at from r) ≡ Ok (l, at to (r - 1))
 unfolding thread
 thread_is_read names k r from to l is some =
     let head = is.head in
@@ -84,7 +84,7 @@ threads_open names _ _ _ (last_one k l from to is end) = word_opens names w.Thre
 threads_open names _ _ _ (one_thread k l ls from to is rest) = word_opens names w.Thread from is.head.0 is.head.1
 
 -- a thread, by the token behind it
-turn_reads : (names : NameTable) (n r : ℕ) (found : List Lines) (l : Lines) (from to : Cursor) (t : Lexeme) → IsThread names (length found + 1) from l to → 0 < r → token to ≡ Ok t
+turn_reads : (names : NameTable) (n r : ℕ) (found : List Lines) (l : Lines) (from to : Cursor) (t : Lexeme) → IsThreadOfText names (length found + 1) from l to → 0 < r → token to ≡ Ok t
     → threads_on names (suc n) found (at from r) ≡ (if is_end t.kind then pure (found ++ l ∷ []) else threads_on names n (found ++ l ∷ [])) (at to (r - 1))
 unfolding threads_on
 turn_reads names n r found l from to t is some read =
@@ -96,7 +96,7 @@ threads_read : (names : NameTable) (k : ℕ) (from : Cursor) (ls : List Lines) �
 threads_read names _ _ _ (last_one k l from to is end) zero r many turns found same = absurd (omega arith)
 threads_read names _ _ _ (last_one k l from to is end) (suc n) r many turns found same = (
   at to (r - 1),
-  turn_reads names n r found l from to end.lexeme (subst (λ k. IsThread names k from l to) same is) (omega arith) end.read
+  turn_reads names n r found l from to end.lexeme (subst (λ k. IsThreadOfText names k from l to) same is) (omega arith) end.read
       ∙ ap (λ z. (if is_end z then pure (found ++ l ∷ []) else threads_on names n (found ++ l ∷ [])) (at to (r - 1))) end.is_end,
 )
 threads_read names _ _ _ (one_thread k l ls from to is rest) zero r many turns found same = absurd (omega arith)
@@ -104,7 +104,7 @@ threads_read names _ _ _ (one_thread k l ls from to is rest) (suc n) r many turn
     let next = threads_open names (k + 1) to ls rest in
     let others = threads_read names (k + 1) to ls rest n (r - 1) (omega arith) (omega arith) (found ++ l ∷ []) (ap (λ k. k + 1) (same ∙ sym (length_push found l))) in (
       others.0,
-      turn_reads names n r found l from to next.lexeme (subst (λ k. IsThread names k from l to) same is) (omega arith) next.read
+      turn_reads names n r found l from to next.lexeme (subst (λ k. IsThreadOfText names k from l to) same is) (omega arith) next.read
           ∙ ap (λ z. (if is_end z then pure (found ++ l ∷ []) else threads_on names n (found ++ l ∷ [])) (at to (r - 1))) next.is.0
           ∙ others.1
           ∙ ap (λ ls. Ok (ls, others.0)) (append_assoc found (l ∷ []) ls),

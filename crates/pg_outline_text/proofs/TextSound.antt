@@ -31,7 +31,7 @@ use Rattle.pg_outline_text.specs.Reading.{precondition, crash_formula, opens_thr
 use Rattle.pg_outline_text.specs.Source.{Source}
 use Rattle.pg_outline_text.specs.Fault.{Fault, other_version, source_in, behind_version, source_of}
 use Rattle.pg_outline_text.specs.Grammar as g
-use Rattle.pg_outline_text.specs.Grammar.{keyword, AreDeclarations, IsGiven, IsEnd, IsThread, AreThreads, IsSourceText}
+use Rattle.pg_outline_text.specs.Grammar.{keyword, AreDeclarations, IsGiven, IsEnd, IsThreadOfText, AreThreads, IsSourceText}
 use Rattle.pg_outline_text.proofs.Keywords.{keyword_found}
 use Rattle.pg_outline_text.proofs.HeadSound.{Passed, version_found, domain_found, declarations_found, behind_then, given_found}
 
@@ -85,7 +85,7 @@ close_found names i j u h =
         takes_one names (sign s.CloseBrace) i j t read (is_sign_found s.CloseBrace t.kind e) (sym (ap (λ (q : Unit {0} × Input). q.1) (ok_same (tt, l) (u, j) g)) ∙ at)
     by t l read at false e g = cc
 
-pub thread_is_found : (names : NameTable) (k : ℕ) (i j : Input) (l : Lines) → thread names k i ≡ Ok (l, j) → IsThread names k i.cursor l j.cursor × (i.room ≡ j.room + 1)
+pub thread_is_found : (names : NameTable) (k : ℕ) (i j : Input) (l : Lines) → thread names k i ≡ Ok (l, j) → IsThreadOfText names k i.cursor l j.cursor × (i.room ≡ j.room + 1)
 unfolding thread
 thread_is_found names k i j l h =
     bind_then (and_then (and_then (and_then (opened i) (λ u. own_number k)) (λ u. expect s.OpenBrace)) (λ u q. behind q (thread_at names q.cursor))) _ (l, j) h (λ a p body rest.
@@ -96,7 +96,7 @@ thread_is_found names k i j l h =
     behind_then q (thread_at names q.cursor) a p reads (λ c found at.
     let items = takes_then (takes_then (opened_found names i o x opens) (own_number_found names k o m v owns)) (expect_found names s.OpenBrace m q u brace) in
     let last = close_found names p n y ends in
-    subst (λ (z : Lines × Input). IsThread names k i.cursor z.0 z.1.cursor × (i.room ≡ z.1.room + 1)) (ok_same (a, n) (l, j) end) (
+    subst (λ (z : Lines × Input). IsThreadOfText names k i.cursor z.0 z.1.cursor × (i.room ≡ z.1.room + 1)) (ok_same (a, n) (l, j) end) (
       record {
         mid = q.cursor;
         end = p.cursor;
@@ -131,7 +131,7 @@ threads_on_found names (suc n) found all i j h =
     by l m t (thread_is_found names (length found + 1) i m l reads) p.0 (λ found i h. threads_on_found names n found all i j h) (is_end t.kind) refl
     (subst (λ q. (if is_end t.kind then pure (found ++ l ∷ []) else threads_on names n (found ++ l ∷ [])) q ≡ Ok (all, j)) p.1 rest2)))
   where
-    by : (l : Lines) (m : Input) (t : Lexeme) → IsThread names (length found + 1) i.cursor l m.cursor × (i.room ≡ m.room + 1) → token m.cursor ≡ Ok t
+    by : (l : Lines) (m : Input) (t : Lexeme) → IsThreadOfText names (length found + 1) i.cursor l m.cursor × (i.room ≡ m.room + 1) → token m.cursor ≡ Ok t
         → ((found : List Lines) (i : Input) → threads_on names n found i ≡ Ok (all, j) → Rest names found i all)
         → (b : Bool) → is_end t.kind ≡ b → (if b then pure (found ++ l ∷ []) else threads_on names n (found ++ l ∷ [])) m ≡ Ok (all, j) → Rest names found i all
     by l m t one read others true ends rest =

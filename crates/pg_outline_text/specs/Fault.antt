@@ -23,29 +23,29 @@ pub data Fault : Type 0 where
   of_outline : OutlineFault → Fault
 
 -- a fault of the tokens is one of the file; want of memory is none
-abbrev pub text_told : TextFault → Option Fault
-text_told (At place kind) = Some (of_text (At place kind))
-text_told text_no_memory = None
+abbrev pub plain_text_fault : TextFault → Option Fault
+plain_text_fault (At place kind) = Some (of_text (At place kind))
+plain_text_fault text_no_memory = None
 
 -- a fault of the formulas is one of the file; want of memory is none
-abbrev pub outline_told : OutlineFault → Option Fault
-outline_told outline_no_memory = None
-outline_told (ValueOutOfDomain v) = Some (of_outline (ValueOutOfDomain v))
-outline_told (UnknownThread t) = Some (of_outline (UnknownThread t))
-outline_told (CrashLocations n) = Some (of_outline (CrashLocations n))
-outline_told (CrashNodes n) = Some (of_outline (CrashNodes n))
+abbrev pub plain_outline_fault : OutlineFault → Option Fault
+plain_outline_fault outline_no_memory = None
+plain_outline_fault (ValueOutOfDomain v) = Some (of_outline (ValueOutOfDomain v))
+plain_outline_fault (UnknownThread t) = Some (of_outline (UnknownThread t))
+plain_outline_fault (CrashLocations n) = Some (of_outline (CrashLocations n))
+plain_outline_fault (CrashNodes n) = Some (of_outline (CrashNodes n))
 
 -- the fault that an answer tells, if it is one of the file
-abbrev pub told : FileFault → Option Fault
-told (Text f) = text_told f
-told (Version n) = Some (other_version n)
-told (Program f) = option_map of_program (program.plain_fault f)
-told (Outline f) = outline_told f
-told NoMemory = None
+abbrev pub plain_fault : FileFault → Option Fault
+plain_fault (Text f) = plain_text_fault f
+plain_fault (Version n) = Some (other_version n)
+plain_fault (Program f) = option_map of_program (program.plain_fault f)
+plain_fault (Outline f) = plain_outline_fault f
+plain_fault NoMemory = None
 
 -- an answer that tells no fault is want of memory
-abbrev pub IsToldOrMemory : FileFault → Type 0
-IsToldOrMemory e = told e ≡ None → e ≡ NoMemory
+abbrev pub IsFaultOrMemory : FileFault → Type 0
+IsFaultOrMemory e = plain_fault e ≡ None → e ≡ NoMemory
 
 abbrev pub source_in : Outcome Source → Result Source Fault
 source_in (Ok p) = Ok p.0

@@ -78,7 +78,7 @@ pub record IsEnd (c : Cursor) : Type 0 where
   pub is_end : lexeme.kind ≡ kind.End
 
 -- thread k
-pub record IsThread (names : NameTable) (k : ℕ) (from : Cursor) (l : Lines) (to : Cursor) : Type 0 where
+pub record IsThreadOfText (names : NameTable) (k : ℕ) (from : Cursor) (l : Lines) (to : Cursor) : Type 0 where
   pub mid : Cursor
   pub end : Cursor
   pub head : Stand names (keyword w.Thread ∷ number k ∷ sign s.OpenBrace ∷ []) from mid
@@ -87,9 +87,9 @@ pub record IsThread (names : NameTable) (k : ℕ) (from : Cursor) (l : Lines) (t
 
 -- thread k and those behind it, up to the end of the text
 pub data AreThreads (names : NameTable) : ℕ → Cursor → List Lines → Type 0 where
-  last_one : (k : ℕ) (l : Lines) (from to : Cursor) → IsThread names k from l to → IsEnd to → AreThreads names k from (l ∷ [])
+  last_one : (k : ℕ) (l : Lines) (from to : Cursor) → IsThreadOfText names k from l to → IsEnd to → AreThreads names k from (l ∷ [])
   one_thread : (k : ℕ) (l : Lines) (ls : List Lines) (from to : Cursor)
-      → IsThread names k from l to → AreThreads names (k + 1) to ls → AreThreads names k from (l ∷ ls)
+      → IsThreadOfText names k from l to → AreThreads names (k + 1) to ls → AreThreads names k from (l ∷ ls)
 
 -- ---- whole texts
 

@@ -7,7 +7,7 @@ use Rattle.pg_outline_text.specs.declared.fault.FileFault.{FileFault}
 use Rattle.pg_outline_text.specs.Source.{Source, program_of, draft, IsMadeOf}
 use Rattle.pg_outline_text.specs.Ready.{IsReady}
 use Rattle.pg_outline_text.specs.Grammar.{IsSourceText}
-use Rattle.pg_outline_text.specs.Fault.{told, first_fault}
+use Rattle.pg_outline_text.specs.Fault.{plain_fault, first_fault}
 
 -- the bytes are a text of the grammar, and the outline is made of it
 pub record StandsFor (bytes : List ℕ) (o : OutlineTable) : Type 0 where
@@ -37,4 +37,4 @@ FaultlessTextsAreReady = (bytes : List ℕ) → first_fault bytes ≡ None → I
 
 -- a refusal tells the first fault, unless memory ran out
 abbrev pub Tells : List ℕ → FileFault → Type 0
-Tells bytes e = IfSome (told e) (λ f. first_fault bytes ≡ Some f)
+Tells bytes e = IfSome (plain_fault e) (λ f. first_fault bytes ≡ Some f)

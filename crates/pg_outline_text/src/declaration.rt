@@ -83,7 +83,7 @@ pub fn last_number(tokens: &mut Tokens<'_>) -> Result<u32, TextFault>
     Ok(number)
 }
 
-/// Reads the declaration of a location, behind its first word.
+/// Reads the declaration of a location, after its first word.
 #[tactic(auto, unfolding(crate::specs::Declaration::location))]
 fn location(tokens: &mut Tokens<'_>, names: &mut Names) -> Result<(), TextFault>
     ensures { ReadsNames (spec.location names.old tokens.old) result names.new tokens.new }
@@ -97,7 +97,7 @@ fn location(tokens: &mut Tokens<'_>, names: &mut Names) -> Result<(), TextFault>
     declare(names, name, NameKind::Location { init })
 }
 
-/// Reads the declaration of a register, behind its first word.
+/// Reads the declaration of a register, after its first word.
 #[tactic(auto, unfolding(crate::specs::Declaration::register))]
 fn register(tokens: &mut Tokens<'_>, names: &mut Names) -> Result<(), TextFault>
     ensures { ReadsNames (spec.register names.old tokens.old) result names.new tokens.new }
@@ -111,7 +111,7 @@ fn register(tokens: &mut Tokens<'_>, names: &mut Names) -> Result<(), TextFault>
     declare(names, name, NameKind::Register { owner })
 }
 
-/// Reads the declaration of an auxiliary, behind its first word.
+/// Reads the declaration of an auxiliary, after its first word.
 #[tactic(auto, unfolding(crate::specs::Declaration::auxiliary))]
 fn auxiliary(tokens: &mut Tokens<'_>, names: &mut Names) -> Result<(), TextFault>
     ensures { ReadsNames (spec.auxiliary names.old tokens.old) result names.new tokens.new }

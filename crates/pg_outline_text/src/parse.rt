@@ -4,7 +4,7 @@ ghost use Rattle.std.specs.Prelude.{◌≡◌, ℕ, ◌^◌, ◌<◌, length, ma
 ghost use Rattle.pg_assertion.specs.Formula.{plain};
 ghost use Rattle.pg_outline.specs.Outline.{OutlineTable as Table};
 ghost use Rattle.pg_program_text.specs.Text.{lines};
-ghost use Rattle.pg_outline_text.specs.Fault.{told, source_of, fault_in, text_told, outline_told, of_program, IsToldOrMemory};
+ghost use Rattle.pg_outline_text.specs.Fault.{plain_fault, source_of, fault_in, plain_text_fault, plain_outline_fault, of_program, IsFaultOrMemory};
 ghost use Rattle.pg_program.specs.Fault as program;
 ghost use Rattle.pg_outline_text.specs.Parts.{as_source};
 ghost use Rattle.pg_outline_text.specs.Ready.{IsReady};
@@ -31,8 +31,8 @@ pub fn parse_outline(alloc: Global, text: &[u8]) -> Result<Outline, FileFault>
     requires { length text.now < 2 ^ 32 }
     ensures found { IfOk result (λ o. StandsFor text.now o) }
     ensures only { (o : Table) → StandsFor text.now o → MatchResult result (λ p. p ≡ o) (λ e. e ≡ FileFault.NoMemory) }
-    ensures told { IfErr result (λ e. Tells text.now e) }
-    ensures memory { IfErr result IsToldOrMemory }
+    ensures first_fault { IfErr result (λ e. Tells text.now e) }
+    ensures memory { IfErr result IsFaultOrMemory }
 {
     match read_source(alloc, text) {
         Ok(source) => made(alloc, source),
@@ -44,8 +44,8 @@ pub fn parse_outline(alloc: Global, text: &[u8]) -> Result<Outline, FileFault>
 #[tactic(auto, unfolding(crate::specs::Fault::source_of))]
 fn read_source(alloc: Global, text: &[u8]) -> Result<Source, FileFault>
     requires { length text.now < 2 ^ 32 }
-    ensures source { MatchResult result (λ s. source_of text.now ≡ Ok (as_source s)) (λ e. IfSome (told e) (λ f. source_of text.now ≡ Err f)) }
-    ensures memory { IfErr result IsToldOrMemory }
+    ensures source { MatchResult result (λ s. source_of text.now ≡ Ok (as_source s)) (λ e. IfSome (plain_fault e) (λ f. source_of text.now ≡ Err f)) }
+    ensures memory { IfErr result IsFaultOrMemory }
 {
     let lexer = Lexer::make(text);
     let mut tokens = Tokens::new(&lexer, MAX_THREADS);
@@ -64,8 +64,8 @@ fn read_source(alloc: Global, text: &[u8]) -> Result<Source, FileFault>
 
 /// A fault of the tokens as one of the file.
 fn of_text(fault: TextFault) -> FileFault
-    ensures told { told result ≡ text_told fault }
-    ensures memory { IsToldOrMemory result }
+    ensures plain { plain_fault result ≡ plain_text_fault fault }
+    ensures memory { IsFaultOrMemory result }
 {
     match fault {
         TextFault::NoMemory => FileFault::NoMemory,
@@ -75,8 +75,8 @@ fn of_text(fault: TextFault) -> FileFault
 
 /// A fault of the program as one of the file.
 fn of_program(fault: ProgramFault) -> FileFault
-    ensures told { told result ≡ option_map of_program (program.plain_fault fault) }
-    ensures memory { IsToldOrMemory result }
+    ensures plain { plain_fault result ≡ option_map of_program (program.plain_fault fault) }
+    ensures memory { IsFaultOrMemory result }
 {
     match fault {
         ProgramFault::NoMemory => FileFault::NoMemory,
@@ -86,8 +86,8 @@ fn of_program(fault: ProgramFault) -> FileFault
 
 /// A fault of the formulas as one of the file.
 fn of_outline(fault: OutlineFault) -> FileFault
-    ensures told { told result ≡ outline_told fault }
-    ensures memory { IsToldOrMemory result }
+    ensures plain { plain_fault result ≡ plain_outline_fault fault }
+    ensures memory { IsFaultOrMemory result }
 {
     match fault {
         OutlineFault::NoMemory => FileFault::NoMemory,
@@ -122,8 +122,8 @@ fn split_threads(alloc: Global, threads: Vec<ThreadText>) -> Result<Parted, Allo
 /// The outline that is made of what was read, or its first fault.
 fn made(alloc: Global, source: Source) -> Result<Outline, FileFault>
     requires { IsReady (as_source source) }
-    ensures outline { MatchResult result (IsMadeOf (as_source source)) (λ e. IfSome (told e) (λ f. fault_in (as_source source) ≡ Some f)) }
-    ensures memory { IfErr result IsToldOrMemory }
+    ensures outline { MatchResult result (IsMadeOf (as_source source)) (λ e. IfSome (plain_fault e) (λ f. fault_in (as_source source) ≡ Some f)) }
+    ensures memory { IfErr result IsFaultOrMemory }
 {
     let Source {
         names,

@@ -1,4 +1,4 @@
-//! The text of an outline behind its version, read from its tokens.
+//! The text of an outline after its version, read from its tokens.
 
 ghost use Rattle.std.specs.Prelude.{◌≡◌};
 ghost use Rattle.pg_assertion_text.specs.Input.{Does, Reads};

@@ -2,7 +2,7 @@
 
 ghost use Rattle.std.specs.Prelude.{◌≡◌, ◌++◌, IfOk, OnOk, is_none, codes, decimal};
 ghost use Rattle.pg_program.specs.Fault as program;
-ghost use Rattle.pg_outline_text.specs.Fault.{told};
+ghost use Rattle.pg_outline_text.specs.Fault.{plain_fault};
 ghost use Rattle.pg_report.specs.Refusal.{kind_text, text_fault, program_text, outline_fault, words_of, line_of};
 ghost use Rattle.pg_report.specs.Reported.{Reports};
 
@@ -21,7 +21,7 @@ pub fn report_file_fault<K: Sink>(
     fault: &FileFault,
     out: &mut K,
 ) -> Result<(), ReportFault>
-    ensures { Reports (line_of (told fault.now)) result (K.written out.old) (K.written out.new) (K.faults out.old) (K.faults out.new) }
+    ensures { Reports (line_of (plain_fault fault.now)) result (K.written out.old) (K.written out.new) (K.faults out.old) (K.faults out.new) }
 {
     let line = refusal_line(alloc, fault)?;
     put(&line, out)
@@ -43,7 +43,7 @@ fn put<K: Sink>(line: &[u8], out: &mut K) -> Result<(), ReportFault>
 
 /// The line of a fault; an empty one for want of memory.
 fn refusal_line(alloc: Global, fault: &FileFault) -> Result<Vec<u8>, AllocError>
-    ensures { IfOk result (λ line. line.items ≡ line_of (told fault.now)) }
+    ensures { IfOk result (λ line. line.items ≡ line_of (plain_fault fault.now)) }
 {
     let mut line = Vec::new(alloc);
     if is_memory(fault) {
@@ -57,7 +57,7 @@ fn refusal_line(alloc: Global, fault: &FileFault) -> Result<Vec<u8>, AllocError>
 
 /// Whether the fault is want of memory.
 fn is_memory(fault: &FileFault) -> bool
-    ensures { result ≡ is_none (told fault.now) }
+    ensures { result ≡ is_none (plain_fault fault.now) }
 {
     matches!(
         fault,
@@ -70,7 +70,7 @@ fn is_memory(fault: &FileFault) -> bool
 
 /// Appends what a fault is called.
 fn append_fault(fault: &FileFault, line: &mut Vec<u8>) -> Result<(), AllocError>
-    ensures { OnOk result (line.new.items ≡ line.old.items ++ words_of (told fault.now)) }
+    ensures { OnOk result (line.new.items ≡ line.old.items ++ words_of (plain_fault fault.now)) }
 {
     match fault {
         FileFault::Text(fault) => append_text_fault(*fault, line),

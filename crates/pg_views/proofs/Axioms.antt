@@ -15,7 +15,7 @@ use Rattle.pg_machine.proofs.Reached.{Reaches, reaches_of, of_reaches, reaches-l
 use Rattle.pg_machine.proofs.ViewLaws.{coh-at}
 use Rattle.pg_machine.proofs.Moved.{thread-views}
 use Rattle.pg_views.specs.Atom.{shows, is_shown, reads, may_read, may_read_then}
-use Rattle.pg_views.specs.Axioms.{HasThread, HasOneLastValue, HasOneScalarValue, LastIsShown, PendingMayPersist, NewestReadIsLast, NewestIsOrdered, OrderedIsFenced, ThenWasReadable, LastIsReadThen, ReadIsReadAgain, NewestLoadKeepsThen}
+use Rattle.pg_views.specs.Axioms.{IsFormedWith, HasOneLastValue, HasOneScalarValue, LastIsShown, PendingMayPersist, NewestReadIsLast, NewestIsOrdered, OrderedIsFenced, ThenWasReadable, LastIsReadThen, ReadIsReadAgain, NewestLoadKeepsThen}
 use Rattle.pg_views.proofs.Below.{some_below-here, shown-at}
 use Rattle.pg_views.proofs.Found.{locations-count}
 use Rattle.pg_views.proofs.Nested.{shown-within}
@@ -23,7 +23,7 @@ use Rattle.pg_views.proofs.CrashLaw.{found, found-is, value-inside}
 use Rattle.pg_views.proofs.Readable.{newest-alone, may_read-same}
 
 -- the views of a thread
-own : (p : ProgramTable) (s : State) (t : ℕ) → HasThread p s t → AreViews s.memory (views_of s t)
+own : (p : ProgramTable) (s : State) (t : ℕ) → IsFormedWith p s t → AreViews s.memory (views_of s t)
 own p s t h = thread-views p s t h.formed h.first h.last
 
 -- ---- one value

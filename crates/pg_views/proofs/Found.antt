@@ -7,7 +7,7 @@ use Rattle.pg_machine.specs.Memory.{Memory}
 use Rattle.pg_machine.specs.Step.{views_of}
 use Rattle.pg_machine.proofs.Scan.{greatest-next}
 use Rattle.pg_machine.proofs.Moved.{thread-views}
-use Rattle.pg_assertion.specs.Layout.{sizes, IsThread}
+use Rattle.pg_assertion.specs.Layout.{sizes, IsThreadNumber}
 use Rattle.pg_views.specs.Crash.{values_at}
 use Rattle.pg_views.specs.Parts.{Has}
 
@@ -35,7 +35,7 @@ pub locations-count : (p : ProgramTable) (s : State) → IsWellFormed p s → le
 locations-count p s h = ap length h.memory.initial ∙ length-map p.names.locations (λ e. e.1)
 
 -- a thread of the program has its views of each declared location
-pub has_views : (p : ProgramTable) (s : State) (t x : ℕ) → IsWellFormed p s → IsThread (sizes p.names (length p.threads)) t → x < length p.names.locations → Has s t x
+pub has_views : (p : ProgramTable) (s : State) (t x : ℕ) → IsWellFormed p s → IsThreadNumber (sizes p.names (length p.threads)) t → x < length p.names.locations → Has s t x
 has_views p s t x h thread inside =
     let count = locations-count p s h in
     let threads = h.threads in

@@ -10,7 +10,7 @@ abbrev pub Holds : State → ViewAtom → Type 0
 Holds s a = atom_holds s a ≡ true
 
 -- the state of the program is well formed, and t is one of its threads
-pub record HasThread (p : ProgramTable) (s : State) (t : ℕ) : Type 0 where
+pub record IsFormedWith (p : ProgramTable) (s : State) (t : ℕ) : Type 0 where
   pub formed : IsWellFormed p s
   pub first : 1 ≤ t
   pub last : t ≤ length p.threads
@@ -33,7 +33,7 @@ HasOneScalarValue =
 -- The last value may persist, each thread may read it, and it may persist after a fence of each thread.
 abbrev pub LastIsShown : Type 0
 LastIsShown =
-    (p : ProgramTable) (s : State) (t x v : ℕ) → HasThread p s t → Holds s (Last x v) → Holds s (Persist x v) × Holds s (Read t x v) × Holds s (Async t x v)
+    (p : ProgramTable) (s : State) (t x v : ℕ) → IsFormedWith p s t → Holds s (Last x v) → Holds s (Persist x v) × Holds s (Read t x v) × Holds s (Async t x v)
 
 -- What may persist after a fence may persist without it.
 abbrev pub PendingMayPersist : Type 0
@@ -45,10 +45,10 @@ NewestReadIsLast = (s : State) (t x v : ℕ) → Holds s (Newest t x) → Holds 
 
 -- A last position that alone may be read is covered by what a `flushopt` is ordered after, and this by what a `flush` is.
 abbrev pub NewestIsOrdered : Type 0
-NewestIsOrdered = (p : ProgramTable) (s : State) (t x : ℕ) → HasThread p s t → Holds s (Newest t x) → Holds s (Ordered t x)
+NewestIsOrdered = (p : ProgramTable) (s : State) (t x : ℕ) → IsFormedWith p s t → Holds s (Newest t x) → Holds s (Ordered t x)
 
 abbrev pub OrderedIsFenced : Type 0
-OrderedIsFenced = (p : ProgramTable) (s : State) (t x : ℕ) → HasThread p s t → Holds s (Ordered t x) → Holds s (Fenced t x)
+OrderedIsFenced = (p : ProgramTable) (s : State) (t x : ℕ) → IsFormedWith p s t → Holds s (Ordered t x) → Holds s (Fenced t x)
 
 -- What may be read after a load could be read before it, and what is loaded too.
 abbrev pub ThenWasReadable : Type 0
@@ -57,7 +57,7 @@ ThenWasReadable = (s : State) (t x v y w : ℕ) → Holds s (Then t x v y w) →
 -- After a load the last value of each location may be read, and of the same location what was loaded.
 abbrev pub LastIsReadThen : Type 0
 LastIsReadThen =
-    (p : ProgramTable) (s : State) (t x v y w : ℕ) → HasThread p s t → Holds s (Read t x v) → Holds s (Last y w) → Holds s (Then t x v y w)
+    (p : ProgramTable) (s : State) (t x v y w : ℕ) → IsFormedWith p s t → Holds s (Read t x v) → Holds s (Last y w) → Holds s (Then t x v y w)
 
 abbrev pub ReadIsReadAgain : Type 0
 ReadIsReadAgain = (s : State) (t x v : ℕ) → Holds s (Read t x v) → Holds s (Then t x v x v)
@@ -65,5 +65,5 @@ ReadIsReadAgain = (s : State) (t x v : ℕ) → Holds s (Read t x v) → Holds s
 -- A load at the last position, which alone may be read, keeps what may be read.
 abbrev pub NewestLoadKeepsThen : Type 0
 NewestLoadKeepsThen =
-    (p : ProgramTable) (s : State) (t x v y w : ℕ) → HasThread p s t → Holds s (Newest t x) → Holds s (Last x v) → Holds s (Read t y w)
+    (p : ProgramTable) (s : State) (t x v y w : ℕ) → IsFormedWith p s t → Holds s (Newest t x) → Holds s (Last x v) → Holds s (Read t y w)
     → Holds s (Then t x v y w)

@@ -5,4 +5,4 @@ pub returns-in-Ok : goal.returns-in-Ok
 returns-in-Ok g c = c.answer_outline.ensures c.args.bytes.now c.in-Ok.ensures.found
 
 pub returns-in-Err : goal.returns-in-Err
-returns-in-Err g c = c.answer_fault.ensures c.args.bytes.now c.in-Err.ensures.told c.in-Err.ensures.memory
+returns-in-Err g c = c.answer_fault.ensures c.args.bytes.now c.in-Err.ensures.first_fault c.in-Err.ensures.memory

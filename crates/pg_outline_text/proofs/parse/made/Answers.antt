@@ -20,7 +20,7 @@ returns-in-Err-clause-outline c =
     let same = c.in_ok-stmts.ensures.stmts ∙ stmts_of c.args.source.threads.items in
     let told_is = program_told (as_source c.args.source) (program.plain_fault c.in-Err.fault)
     (subst (λ ts. IfSome (program.plain_fault c.in-Err.fault) (λ f. program.first_fault c.args.source.names ts ≡ Some f)) same c.in-Err.ensures) in
-    subst (λ o. IfSome o (λ f. fault_in (as_source c.args.source) ≡ Some f)) (sym c.of_program.ensures.told) told_is
+    subst (λ o. IfSome o (λ f. fault_in (as_source c.args.source) ≡ Some f)) (sym c.of_program.ensures.plain) told_is
 
 pub returns-in-Ok-build-clause-outline : goal.returns-in-Ok-build-clause-outline
 returns-in-Ok-build-clause-outline c =
@@ -33,4 +33,4 @@ returns-in-Err-build-clause-outline c =
     let same = c.in_ok-stmts.ensures.stmts ∙ stmts_of c.args.source.threads.items in
     let is = parts_of (as_source c.args.source) _ _ (c.in-Ok.ensures.0 ∙ ap (λ ts. record { names = c.args.source.names; threads = ts }) same) (c.in_ok-stmts.ensures.notes ∙ notes_of c.args.source.threads.items) in
     let tells = outline_tells (as_source c.args.source) _ c.in-Err-build.fault is (ap (program.first_fault c.args.source.names) (sym same) ∙ c.in-Ok.ensures.1) c.in-Err-build.ensures in
-    subst (λ o. IfSome o (λ f. fault_in (as_source c.args.source) ≡ Some f)) (sym c.of_outline.ensures.told) tells
+    subst (λ o. IfSome o (λ f. fault_in (as_source c.args.source) ≡ Some f)) (sym c.of_outline.ensures.plain) tells
