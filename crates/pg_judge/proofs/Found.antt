@@ -23,6 +23,7 @@ use Rattle.pg_outline.specs.declared.fault.OutlineFault.TheVariants.{ValueOutOfD
 use Rattle.pg_outline.specs.Outline.{OutlineTable, IsSmall, draft_of}
 use Rattle.pg_outline.specs.Fault.{Fault, first_of, first_in, in_formula, atom_fault, crash_atom_fault, value_fault, locations_fault, size_fault, numbers_fault}
 use Rattle.pg_outline.specs.Made.{IsOutline}
+use Rattle.pg_outline.proofs.Parts.{both_none, value_inside}
 use Rattle.pg_judge.specs.declared.outline.PathLit.{PathLit}
 use Rattle.pg_judge.specs.declared.outline.PathOutline.{PathOutline}
 use Rattle.pg_judge.specs.Limits.{most_literals}
@@ -47,17 +48,6 @@ module _ (Q : Plain ViewAtom → Type 0) (R : PathLit → Type 0) (parts : (f g 
   each_literal (l ∷ ls) h = let r = in_joined (literal_of l) ls h in All-cons R l ls (one l r.0) r.1
 
 -- ---- names are declared and values are in the domain
-
-both_none : (f g : Fault) → first_of f g ≡ None → (f ≡ None) × (g ≡ None)
-both_none None g h = (refl, h)
-both_none (Some e) g h = cc
-
-value_inside : (d v : ℕ) → value_fault d v ≡ None → v < d
-value_inside d v h = by (nat_lt v d) refl h
-  where
-    by : (b : Bool) → nat_lt v d ≡ b → ◌≡◌ {A = Fault} (if b then None else Some (ValueOutOfDomain v)) None → v < d
-    by true e g = ltb-true v d e
-    by false e g = cc
 
 -- a formula over the names and values, as it stands in an outline
 record IsGood (names : NameTable) (n : ℕ) (f : Plain ViewAtom) : Type 0 where

@@ -11,19 +11,13 @@ use Rattle.pg_program.specs.Graph.{size, statements}
 use Rattle.pg_program.specs.Fault.{Fault, first_of, in_thread, in_threads, first_fault, domain_fault, unknown_thread, unknown_owner, value_out_of_domain, first_outside, own_registers, no_auxiliaries, distinct_targets, numbers_inside, few_names}
 use Rattle.pg_program.specs.Program.{ProgramTable, IsProgram, IsThread, IsStmt}
 use Rattle.pg_program.proofs.GraphLemmas.{length-statements}
+use Rattle.pg_program.proofs.ProgramLemmas.{none_of, both_none, Faultless, faultless}
 use Rattle.pg_outline.specs.Erasure.{erased, erased_names, erased_stmt, new_place}
 use Rattle.pg_outline.proofs.EraseNames.{owners_stay}
 use Rattle.pg_outline.proofs.EraseStmts.{statements_erased}
 use Rattle.pg_outline.proofs.EraseClauses as clause
 
 -- ---- one after another
-
-both_none : (f g : Option Fault) → f ≡ None → g ≡ None → first_of f g ≡ None
-both_none f g h k = ap (λ (o : Option Fault). first_of o g) h ∙ k
-
-none_of : (f g : Option Fault) → first_of f g ≡ None → (f ≡ None) × (g ≡ None)
-none_of None g h = (refl, h)
-none_of (Some x) g h = cc
 
 -- a clause of the erased statements, by two of the statements
 module _ (a b c : PointId → Stmt → Option Fault) (erase : Stmt → Stmt)
@@ -48,17 +42,6 @@ module _ (a b c : PointId → Stmt → Option Fault) (erase : Stmt → Stmt)
 
 -- ---- the faults
 
--- each clause has no fault
-record Faultless (names : NameTable) (threads : List (List Stmt)) : Type 0 where
-  domain : domain_fault names.domain ≡ None
-  owners : option_map unknown_thread (unknown_owner (length threads) names.scalars) ≡ None
-  own : in_threads (own_registers names) 1 threads ≡ None
-  bare : in_threads (no_auxiliaries names) 1 threads ≡ None
-  apart : in_threads (distinct_targets names) 1 threads ≡ None
-  initial : option_map value_out_of_domain (first_outside names.domain (initial names)) ≡ None
-  inside : in_threads (numbers_inside names) 1 threads ≡ None
-  few : in_threads (few_names names) 1 threads ≡ None
-
 all_none : (a b c d e f g h : Option Fault) → a ≡ None → b ≡ None → c ≡ None → d ≡ None → e ≡ None → f ≡ None → g ≡ None → h ≡ None
     → first_of a (first_of b (first_of c (first_of d (first_of e (first_of f (first_of g h)))))) ≡ None
 all_none a b c d e f g h ia ib ic id ie if ig ih =
@@ -69,24 +52,6 @@ all_none a b c d e f g h ia ib ic id ie if ig ih =
     (both_none e (first_of f (first_of g h)) ie
     (both_none f (first_of g h) if
     (both_none g h ig ih))))))
-
-each_none : (a b c d e f g h : Option Fault) → first_of a (first_of b (first_of c (first_of d (first_of e (first_of f (first_of g h)))))) ≡ None
-    → (a ≡ None) × (b ≡ None) × (c ≡ None) × (d ≡ None) × (e ≡ None) × (f ≡ None) × (g ≡ None) × (h ≡ None)
-each_none a b c d e f g h is =
-    let p = none_of a (first_of b (first_of c (first_of d (first_of e (first_of f (first_of g h)))))) is in
-    let q = none_of b (first_of c (first_of d (first_of e (first_of f (first_of g h))))) p.1 in
-    let r = none_of c (first_of d (first_of e (first_of f (first_of g h)))) q.1 in
-    let s = none_of d (first_of e (first_of f (first_of g h))) r.1 in
-    let t = none_of e (first_of f (first_of g h)) s.1 in
-    let u = none_of f (first_of g h) t.1 in
-    let v = none_of g h u.1 in
-    (p.0, q.0, r.0, s.0, t.0, u.0, v.0, v.1)
-
-faultless : (names : NameTable) (threads : List (List Stmt)) → first_fault names threads ≡ None → Faultless names threads
-faultless names threads h =
-    let each = each_none (domain_fault names.domain) (option_map unknown_thread (unknown_owner (length threads) names.scalars)) (in_threads (own_registers names) 1 threads) (in_threads (no_auxiliaries names) 1 threads) (in_threads (distinct_targets names) 1 threads)
-    (option_map value_out_of_domain (first_outside names.domain (initial names))) (in_threads (numbers_inside names) 1 threads) (in_threads (few_names names) 1 threads) h in
-    record { domain = each.0; owners = each.1; own = each.2; bare = each.3; apart = each.4; initial = each.5; inside = each.6; few = each.7 }
 
 no_fault : (names : NameTable) (threads : List (List Stmt)) → Faultless names threads → first_fault names threads ≡ None
 no_fault names threads h =

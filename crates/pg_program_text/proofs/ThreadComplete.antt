@@ -33,7 +33,8 @@ use Rattle.pg_program_text.specs.Grammar as g
 use Rattle.pg_program_text.specs.Grammar.{Part, IsPart, a_simple, an_if, a_while, an_else, no_else, in_braces, no_lines as none, a_line, IsAct, an_assign, a_store, a_load, a_cas, an_mfence, an_sfence, a_flush, a_flushopt, IsBracket, IsTest, IsNote, IsBody, last_note, body_line, BeginsNone, IsThreadText}
 use Rattle.pg_program_text.proofs.ExprComplete.{at, ends_before}
 use Rattle.pg_program_text.proofs.PartsComplete.{note_reads, test_reads, act_reads, bracket_reads, bracket_ends, keyword_reads, sign_no_keyword, name_no_keyword}
-use Rattle.pg_program_text.proofs.ThreadSound.{thread_found, same_result}
+use Rattle.pg_assertion_text.proofs.Whole.{same_result}
+use Rattle.pg_program_text.proofs.ThreadSound.{thread_found}
 
 -- the next token is no keyword
 pub record NoKeyword (c : Cursor) : Type 0 where

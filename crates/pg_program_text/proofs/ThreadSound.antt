@@ -16,6 +16,7 @@ use Rattle.pg_assertion_text.specs.Words.{Stands, sign, word}
 use Rattle.pg_assertion_text.specs.Input.{Input, Outcome, Parser, pure, peek, next, expect, is_sign}
 use Rattle.pg_assertion_text.specs.Parsing.{placed}
 use Rattle.pg_assertion_text.proofs.Steps.{ok_same, bind_then, next_found, peek_found, is_sign_found, expect_found}
+use Rattle.pg_assertion_text.proofs.Whole.{placed_then}
 use Rattle.pg_program_text.specs.declared.keyword.Keyword.{Keyword}
 use Rattle.pg_program_text.specs.declared.keyword.Keyword.TheVariants as k
 use Rattle.pg_program_text.specs.Limits.{most_points, most_open_blocks}
@@ -299,15 +300,6 @@ body_on_found names (suc n) before all i j h =
           room = room;
           stops = record { lexeme = t; read = read; begins_none = is };
         })
-
-pub same_result : {A : Type 0} (p q : A × Cursor) → ◌≡◌ {A = Result (A × Cursor) TextFault} (Ok p) (Ok q) → p ≡ q
-same_result {A} p q h = let value : Result (A × Cursor) TextFault → A × Cursor = λ r. result_unwrap_or r p in ap value h
-
-placed_then : {A X : Type 0} (o : Outcome A) (a : A) (to : Cursor) → placed o ≡ Ok (a, to) → ((j : Input) → o ≡ Ok (a, j) → j.cursor ≡ to → X) → X
-placed_then {A} (Ok p) a to h use_it =
-    let same = same_result (p.0, p.1.cursor) (a, to) h in
-    use_it p.1 (ap (λ x. Ok (x, p.1)) (ap (λ (q : A × Cursor). q.0) same)) (ap (λ (q : A × Cursor). q.1) same)
-placed_then (Err e) a to h use_it = cc
 
 -- a body that is read is in the grammar
 pub thread_found : (names : NameTable) (c to : Cursor) (l : Lines) → thread_at names c ≡ Ok (l, to) → IsThreadText names c l to

@@ -5,7 +5,6 @@ ghost use Rattle.std.specs.Prelude.{◌≡◌, ◌≤◌, ◌+◌, ◌<◌, ◌^
 ghost use Rattle.pg_program.specs.declared.syntax.Act.{out-Act};
 ghost use Rattle.pg_program.specs.Block.{block, first_list, second_list};
 ghost use Rattle.pg_program.specs.Graph.{size, statements};
-ghost use Rattle.pg_program.specs.Graph as graph;
 ghost use Rattle.pg_program.specs.Program.{IsStmt};
 ghost use Rattle.pg_assertion.specs.Formula.{plain, AllAtoms};
 ghost use Rattle.pg_assertion_text.specs.Spelling.{in_brackets, location_name, scalar_name};
@@ -18,7 +17,7 @@ ghost use Rattle.pg_program_text.specs.ReadAgain.{ThreadIsReadAgain};
 use itoa::Buffer;
 use pg_assertion::{Formula, ViewAtom};
 use pg_assertion_text::print_formula;
-use pg_program::{Act, AuxAssign, Cond, Expr, Names, Stmt};
+use pg_program::{Act, AuxAssign, Cond, Expr, Names, Stmt, first_within, is_test, second_within};
 use std::alloc::AllocError;
 
 // ---- expressions
@@ -334,12 +333,6 @@ pub(crate) fn stmt_line(
     }
 }
 
-fn is_test(stmt: &Stmt) -> bool
-    ensures { result ≡ graph.is_test stmt.now }
-{
-    matches!(stmt.act, Act::If { .. } | Act::While { .. })
-}
-
 /// Appends the line between the two blocks of a branch, if the second one is not empty.
 fn else_line(no: &[Stmt], depth: u64, into: &mut Vec<u8>) -> Result<(), AllocError>
     ensures { OnOk result (into.new.items ≡ into.old.items ++ spec.else_line depth (block no.now)) }
@@ -358,27 +351,6 @@ fn last_line(stmt: &Stmt, depth: u64, into: &mut Vec<u8>) -> Result<(), AllocErr
         line(depth, b"}", into)
     } else {
         Ok(())
-    }
-}
-
-/// The first block within a statement.
-fn first_within(stmt: &Stmt) -> &[Stmt]
-    ensures { result.now ≡ first_list stmt.now }
-{
-    match &stmt.act {
-        Act::If { yes, .. } => yes.as_slice(),
-        Act::While { body, .. } => body.as_slice(),
-        _ => &[],
-    }
-}
-
-/// The second block within a statement.
-fn second_within(stmt: &Stmt) -> &[Stmt]
-    ensures { result.now ≡ second_list stmt.now }
-{
-    match &stmt.act {
-        Act::If { no, .. } => no.as_slice(),
-        _ => &[],
     }
 }
 
