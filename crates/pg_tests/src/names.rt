@@ -53,8 +53,8 @@ fn declares(
         Ok(place) => Some(place),
         Err(_) => names.find(name),
     };
-    agree(names.declare(name, kind), answer, name.as_bytes())?;
-    agree(names.find(name), wanted, name.as_bytes())
+    agree(names.declare(name, kind) == answer, true, name.as_bytes())?;
+    agree(names.find(name) == wanted, true, name.as_bytes())
 }
 
 /// Passes where each declaration has its answer.
