@@ -11,7 +11,7 @@ use Rattle.pg_program.specs.declared.name_table.NameKind.{NameKind}
 use Rattle.pg_program.specs.declared.name_table.NameKind.TheVariants as kind
 use Rattle.pg_program.specs.declared.name_table.ScalarKind.{ScalarKind}
 use Rattle.pg_program.specs.declared.name_table.ScalarKind.TheVariants as scalar
-use Rattle.pg_program.specs.NameTable.{NameTable, kind_of, is_auxiliary, is_auxiliary_kind}
+use Rattle.pg_program.specs.NameTable.{NameTable, Location, kind_of, is_auxiliary, is_auxiliary_kind}
 use Rattle.pg_program.specs.Block.{block}
 use Rattle.pg_program.specs.Graph.{statements}
 use Rattle.pg_program.specs.Fault.{Fault, plain_fault, first_of, unknown_owner, first_outside, in_thread, in_threads}
@@ -107,13 +107,13 @@ owner_of_none n (e ∷ es) (suc r) k h never = owner_of_none n es r k h never �
 -- ---- numbers
 
 -- one entry more is looked at
-pub first_outside-drop : (d : ℕ) (es : List (List ℕ × ℕ)) (x v : ℕ) → option_map (λ e. e.1) (slice_get es x) ≡ Some v
-    → first_outside d (map (λ e. e.1) (drop x es)) ≡ cond (nat_le d v) (Some v) (first_outside d (map (λ e. e.1) (drop (x + 1) es)))
+pub first_outside-drop : (d : ℕ) (es : List Location) (x v : ℕ) → option_map (λ e. e.init) (slice_get es x) ≡ Some v
+    → first_outside d (map (λ e. e.init) (drop x es)) ≡ cond (nat_le d v) (Some v) (first_outside d (map (λ e. e.init) (drop (x + 1) es)))
 first_outside-drop d [] x v h = cc
 first_outside-drop d (e ∷ es) zero v h =
-    let same : e.1 ≡ v = cc in
-    ap (λ w. cond (nat_le d w) (Some w) (first_outside d (map (λ e. e.1) es))) same
-first_outside-drop d (e ∷ es) (suc x) v h = first_outside-drop d es x v h ∙ ap (λ n. cond (nat_le d v) (Some v) (first_outside d (map (λ e. e.1) (drop n (e ∷ es))))) (let q : suc (x + 1) ≡ suc x + 1 = omega arith in q)
+    let same : e.init ≡ v = cc in
+    ap (λ w. cond (nat_le d w) (Some w) (first_outside d (map (λ e. e.init) es))) same
+first_outside-drop d (e ∷ es) (suc x) v h = first_outside-drop d es x v h ∙ ap (λ n. cond (nat_le d v) (Some v) (first_outside d (map (λ e. e.init) (drop n (e ∷ es))))) (let q : suc (x + 1) ≡ suc x + 1 = omega arith in q)
 
 -- ---- targets
 

@@ -5,6 +5,7 @@ use Rattle.std.proofs.lemmas.Bool.{leb-true, leb-false}
 use Rattle.std.proofs.lemmas.List.Elements.{All-nil, All-cons}
 use Rattle.pg_program.specs.declared.syntax.Stmt.{Stmt}
 use Rattle.pg_program.specs.declared.point.PointId.{PointId}
+use Rattle.pg_program.specs.Limits.{largest_domain}
 use Rattle.pg_program.specs.NameTable.{NameTable, initial}
 use Rattle.pg_program.specs.Block.{block}
 use Rattle.pg_program.specs.Graph.{statements}
@@ -26,7 +27,7 @@ both_none f g h k = ap (λ (o : Option Fault). first_of o g) h ∙ k
 
 -- each clause has no fault
 pub record Faultless (names : NameTable) (threads : List (List Stmt)) : Type 0 where
-  pub domain : domain_fault names.domain ≡ None
+  pub domain : domain_fault names.version names.domain ≡ None
   pub owners : option_map unknown_thread (unknown_owner (length threads) names.scalars) ≡ None
   pub own : in_threads (own_registers names) 1 threads ≡ None
   pub bare : in_threads (no_auxiliaries names) 1 threads ≡ None
@@ -50,7 +51,7 @@ each_none None None None None None None (Some x) h is = cc
 pub faultless : (names : NameTable) (threads : List (List Stmt)) → first_fault names threads ≡ None → Faultless names threads
 faultless names threads h =
     let text : (PointId → Stmt → Option Fault) → Option Fault = λ C. in_threads C 1 threads in
-    let e = each_none (domain_fault names.domain) (option_map unknown_thread (unknown_owner (length threads) names.scalars)) (text (own_registers names))
+    let e = each_none (domain_fault names.version names.domain) (option_map unknown_thread (unknown_owner (length threads) names.scalars)) (text (own_registers names))
     (text (no_auxiliaries names)) (text (distinct_targets names)) (option_map value_out_of_domain (first_outside names.domain (initial names)))
     (text (numbers_inside names)) (text (few_names names)) h in
     record { domain = e.0; owners = e.1; own = e.2; bare = e.3; apart = e.4; initial = e.5; inside = e.6; few = e.7 }
@@ -69,14 +70,14 @@ below_all d (v ∷ vs) h = by (below_all d vs) (nat_le d v) refl h
     by rest true is e = cc
     by rest false is e = All-cons (λ (w : ℕ). w < d) v vs (leb-false d v is) (rest e)
 
-domain_has : (d : ℕ) (b : Bool) → nat_le 2 d ≡ b → cond (b && nat_le d 4) None (Some (domain_size d)) ≡ None → 2 ≤ d
-domain_has d true is h = leb-true 2 d is
-domain_has d false is h = cc
+domain_has : (d most : ℕ) (b : Bool) → nat_le 2 d ≡ b → cond (b && nat_le d most) None (Some (domain_size d)) ≡ None → 2 ≤ d
+domain_has d most true is h = leb-true 2 d is
+domain_has d most false is h = cc
 
 -- a domain is not empty
 pub has_values : (p : ProgramTable) → IsProgram p → 0 < p.names.domain
 has_values p h =
-    let two = domain_has p.names.domain (nat_le 2 p.names.domain) refl (faultless p.names p.threads h.faultless).domain in
+    let two = domain_has p.names.domain (largest_domain p.names.version) (nat_le 2 p.names.domain) refl (faultless p.names p.threads h.faultless).domain in
     omega (arith, two)
 
 -- each initial value is below the domain's size

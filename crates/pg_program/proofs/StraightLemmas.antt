@@ -254,7 +254,7 @@ quiet C ss es none are =
 pub straight-fault : (names : NameTable) (threads : List (List Stmt)) (es : List (ℕ × ℕ)) → straight threads ≡ Some es → first_fault names threads ≡ straight_fault names es
 straight-fault names [] es are = cc
 straight-fault names (ss ∷ []) es are =
-    let domain = domain_fault names.domain in
+    let domain = domain_fault names.version names.domain in
     let owners = option_map unknown_thread (unknown_owner 1 names.scalars) in
     let initials = option_map value_out_of_domain (first_outside names.domain (initial names)) in
     let registers : in_threads (own_registers names) 1 (ss ∷ []) ≡ None =
@@ -280,7 +280,7 @@ straight-fault names (ss ∷ []) es are =
 straight-fault names (ss ∷ us ∷ threads) es are = cc
 
 -- the first fault, where the domain and the owners have none
-pub straight_fault-numbers : (names : NameTable) (es : List (ℕ × ℕ)) (o : Option ℕ) → is_domain names.domain ≡ true → unknown_owner 1 names.scalars ≡ None
+pub straight_fault-numbers : (names : NameTable) (es : List (ℕ × ℕ)) (o : Option ℕ) → is_domain names.version names.domain ≡ true → unknown_owner 1 names.scalars ≡ None
     → first_outside names.domain (initial names ++ stored es) ≡ o → straight_fault names es ≡ option_map value_out_of_domain o
 straight_fault-numbers names es o size owners h =
     let numbers = option_map value_out_of_domain (first_outside names.domain (initial names ++ stored es)) in

@@ -69,12 +69,12 @@ few_names names at s = if list_any is_wide (groups s) then Some (expression_name
 
 -- ---- the clauses over names and threads
 
--- a domain has not too few values and not too many
-abbrev pub is_domain : ℕ → Bool
-is_domain d = nat_le least_domain d && nat_le d largest_domain
+-- a domain has not too few values and not too many for the version
+abbrev pub is_domain : ℕ → ℕ → Bool
+is_domain version d = nat_le least_domain d && nat_le d (largest_domain version)
 
-abbrev pub domain_fault : ℕ → Option Fault
-domain_fault d = if is_domain d then None else Some (domain_size d)
+abbrev pub domain_fault : ℕ → ℕ → Option Fault
+domain_fault version d = if is_domain version d then None else Some (domain_size d)
 
 -- the first owner of a register that is none of the n threads
 abbrev pub unknown_owner : ℕ → List (List ℕ × ScalarKind) → Option ℕ
@@ -95,7 +95,7 @@ in_threads clause t (ss ∷ threads) = first_of (in_thread clause t 1 (statement
 -- The first fault. The clauses go in this order, each through the whole text before the next.
 abbrev pub first_fault : NameTable → List (List Stmt) → Option Fault
 first_fault names threads =
-    first_of (domain_fault names.domain)
+    first_of (domain_fault names.version names.domain)
     (first_of (option_map unknown_thread (unknown_owner (length threads) names.scalars))
     (first_of (in_threads (own_registers names) 1 threads)
     (first_of (in_threads (no_auxiliaries names) 1 threads)

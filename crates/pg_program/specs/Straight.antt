@@ -46,6 +46,6 @@ stored stores = map (λ s. s.1) stores
 -- stored numbers
 abbrev pub straight_fault : NameTable → List (ℕ × ℕ) → Option Fault
 straight_fault names stores =
-    first_of (domain_fault names.domain)
+    first_of (domain_fault names.version names.domain)
     (first_of (option_map unknown_thread (unknown_owner 1 names.scalars))
     (option_map value_out_of_domain (first_outside names.domain (initial names ++ stored stores))))

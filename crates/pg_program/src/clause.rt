@@ -40,7 +40,7 @@ pub fn check(alloc: Global, names: &Names, threads: &[Vec<Stmt>]) -> Result<(), 
     requires { AreThreads names.now (map (λ t. t.items) threads.now) }
     ensures { Finds (first_fault names.now (map (λ t. t.items) threads.now)) result }
 {
-    check_domain(names.domain())?;
+    check_domain(names)?;
     check_owners(names, threads.len() as u32)?;
     check_text(alloc, Clause::OwnRegisters, names, threads)?;
     check_text(alloc, Clause::NoAuxiliaries, names, threads)?;
@@ -50,11 +50,13 @@ pub fn check(alloc: Global, names: &Names, threads: &[Vec<Stmt>]) -> Result<(), 
     check_text(alloc, Clause::FewNames, names, threads)
 }
 
-/// A domain has two to four values.
-fn check_domain(size: u32) -> Result<(), ProgramFault>
-    ensures { Finds (domain_fault size) result }
+/// A domain has two to four values in version 1 of the language, and two to six in version 2.
+fn check_domain(names: &Names) -> Result<(), ProgramFault>
+    ensures { Finds (domain_fault names.now.version names.now.domain) result }
 {
-    if (2..=4).contains(&size) {
+    let size = names.domain();
+    let largest = if names.version() == 1 { 4 } else { 6 };
+    if (2..=largest).contains(&size) {
         Ok(())
     } else {
         Err(ProgramFault::DomainSize(size))

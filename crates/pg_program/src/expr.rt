@@ -1,6 +1,7 @@
 //! The values of expressions and tests, and what stands in them.
 
 ghost use Rattle.std.specs.Prelude.{◌≡◌, ◌++◌, ◌*◌, ◌<◌, ◌≤◌, length, All, OnOk};
+ghost use Rattle.pg_program.specs.Limits.{IsDomainSize, largest_domain_2};
 ghost use Rattle.pg_program.specs.Expr.{reads, numbers, value, test_holds};
 
 use crate::syntax::{Cond, Expr};
@@ -8,7 +9,7 @@ use std::alloc::AllocError;
 
 /// The value of an expression over the values of the scalars, modulo the size of the domain.
 pub fn eval(expr: &Expr, scalars: &[u8], domain: u32) -> u8
-    requires domain { (2 ≤ domain) × (domain ≤ 6) }
+    requires domain { IsDomainSize domain }
     requires values { All (λ v. v < domain) scalars.now }
     requires names { All (λ r. r < length scalars.now) (reads expr.now) }
     ensures value { result ≡ value scalars.now domain expr.now }
@@ -37,7 +38,7 @@ pub fn eval(expr: &Expr, scalars: &[u8], domain: u32) -> u8
 
 /// The product of two values.
 fn product(a: u8, b: u8) -> u8
-    requires { (a < 6) × (b < 6) }
+    requires { (a < largest_domain_2) × (b < largest_domain_2) }
     ensures { result ≡ a * b }
 {
     a * b
@@ -45,7 +46,7 @@ fn product(a: u8, b: u8) -> u8
 
 /// Whether a test holds over the values of the scalars.
 pub fn holds_cond(test: &Cond, scalars: &[u8], domain: u32) -> bool
-    requires domain { (2 ≤ domain) × (domain ≤ 6) }
+    requires domain { IsDomainSize domain }
     requires values { All (λ v. v < domain) scalars.now }
     requires left { All (λ r. r < length scalars.now) (reads test.now.left) }
     requires right { All (λ r. r < length scalars.now) (reads test.now.right) }

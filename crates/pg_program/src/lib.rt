@@ -23,7 +23,7 @@ pub use expr::{eval, holds_cond};
 pub use fault::ProgramFault;
 pub use graph::{Program, is_test, store_of};
 pub use name_table::{
-    DeclareFault, MAX_LOCATIONS, MAX_SCALARS, NameKind, NameRef, Names, ScalarKind,
+    DeclareFault, MAX_LOCATIONS, MAX_LOCATIONS_2, MAX_SCALARS, NameKind, NameRef, Names, ScalarKind,
 };
 pub use point::{Branch, PointId, Step};
 pub use syntax::{Act, AuxAssign, Cond, Expr, Stmt};

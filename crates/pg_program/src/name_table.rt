@@ -1,16 +1,19 @@
-//! The table of declared names: the domain's size, the locations and the scalars.
+//! The table of declared names: the version of the language, the domain's size, the locations and the scalars.
 
 ghost use Rattle.pg_program.specs.NameTable.{place_in, by_bytes};
-ghost use Rattle.pg_program.specs.Limits.{most_locations, most_scalars};
-ghost use Rattle.std.specs.Prelude.{IsSome, ◌≡◌, ℕ, ◌+◌, ◌<◌, ◌≤◌, ◌↔◌, List, [], ◌∷◌, ◌++◌, length, string_bytes, IsTrue, IsErrOf, IfOk, OnOk, OnErr, Some, None, slice_get, option_map, true, false};
+ghost use Rattle.pg_program.specs.Limits.{IsVersion, most_locations, most_locations_2, most_scalars};
+ghost use Rattle.std.specs.Prelude.{IsSome, ◌≡◌, ℕ, ◌+◌, ◌<◌, ◌≤◌, map, ◌↔◌, List, [], ◌∷◌, ◌++◌, length, string_bytes, IsTrue, IsErrOf, IfOk, OnOk, OnErr, Some, None, slice_get, option_map, true, false};
 
 use indexmap::IndexMap;
 use std::alloc::{AllocError, Global};
 use std::marker::Model;
 use thiserror::Error;
 
-/// How many locations a table may have.
+/// How many locations a table may have in version 1 of the language.
 pub const MAX_LOCATIONS: u8 = 6;
+
+/// How many locations a table may have in version 2.
+pub const MAX_LOCATIONS_2: u8 = 8;
 
 /// How many scalars, registers and auxiliaries together, a table may have.
 pub const MAX_SCALARS: u8 = 16;
@@ -18,8 +21,10 @@ pub const MAX_SCALARS: u8 = 16;
 /// What a declared name stands for.
 #[derive(Clone, Copy, PartialEq, Eq)]
 pub enum NameKind {
-    /// A place in persistent memory, with its initial value.
+    /// A place in persistent memory, with its initial value, that begins a cache line.
     Location { init: u32 },
+    /// A place in persistent memory that stands on the cache line of the location declared before it. In version 2 alone.
+    LocationWith { init: u32 },
     /// A register of one thread, which is numbered from 1.
     Register { owner: u32 },
     /// A variable of the outline alone, which no statement reads.
@@ -51,43 +56,59 @@ pub enum DeclareFault {
     NoMemory,
 }
 
-/// The declared names of a program, with the size of the domain of values.
+/// What is kept of a location beside its name: its initial value, and the cache line that it stands on.
+#[derive(Clone, Copy)]
+struct Placed {
+    init: u32,
+    line: u8,
+}
+
+/// The declared names of a program, with the version of the language and the size of the domain of values.
 #[derive(Drop)]
 pub struct Names {
     alloc: Global,
+    version: u32,
     domain: u32,
-    locations: IndexMap<String, u32>,
+    lines: u8,
+    locations: IndexMap<String, Placed>,
     scalars: IndexMap<String, ScalarKind>,
 }
 
 impl Model for Names {
-    ghost use Rattle.pg_program.specs.NameTable.{NameTable, by_bytes, IsNameTable};
+    ghost use Rattle.std.specs.Prelude.{◌≡◌, map};
+    ghost use Rattle.pg_program.specs.NameTable.{NameTable, by_bytes, location_of, lines, line_count, IsNameTable};
 
     ghost Value = { NameTable };
 
-    ghost view = { λ n. record { domain = n.domain; locations = by_bytes n.locations.entries; scalars = by_bytes n.scalars.entries } };
+    ghost view = { λ n. record { version = n.version; domain = n.domain; locations = map location_of (by_bytes n.locations.entries); scalars = by_bytes n.scalars.entries } };
 
-    ghost invariant = { λ n. IsNameTable (record { domain = n.domain; locations = by_bytes n.locations.entries; scalars = by_bytes n.scalars.entries }) };
+    ghost invariant = { λ n.
+        (n.lines ≡ line_count (map (λ l. l.line) (map location_of (by_bytes n.locations.entries))))
+        × IsNameTable (record { version = n.version; domain = n.domain; locations = map location_of (by_bytes n.locations.entries); scalars = by_bytes n.scalars.entries }) };
 }
 
 impl Names {
-    ghost use Rattle.pg_program.specs.NameTable.{empty_table, find, is_full, next_place, with_name, kind_of, Declares, IsNameTable};
+    ghost use Rattle.pg_program.specs.NameTable.{empty_table, find, is_full, next_place, with_name, with_location, kind_of, lines, line_count, location_names, scalar_names, MayJoin, Declares, IsNameTable};
 
-    /// A table without names, over the values below `domain`.
-    pub fn make(alloc: Global, domain: u32) -> Names
-        ensures { result ≡ empty_table domain }
+    /// A table without names, of a version of the language and over the values below `domain`.
+    pub fn make(alloc: Global, domain: u32, version: u32) -> Names
+        requires { IsVersion version }
+        ensures { result ≡ empty_table domain version }
     {
         Names {
             alloc,
+            version,
             domain,
+            lines: 0,
             locations: IndexMap::new(alloc),
             scalars: IndexMap::new(alloc),
         }
     }
 
     /// Declares a name, as the last of its kind. A refused call leaves the table as it was; want of memory aside,
-    /// a name that is there is refused first.
+    /// a name that is there is refused first. There may be 6 locations in version 1, 8 in version 2, and 16 scalars.
     pub fn declare(&mut self, name: &str, kind: NameKind) -> Result<NameRef, DeclareFault>
+        requires { MayJoin kind self.old }
         ensures ok { IfOk result (Declares self.old self.new name.now kind) }
         ensures redeclared { IsErrOf result DeclareFault.Redeclared ↔ IsSome (find name.now self.old) }
         ensures too_many { IsErrOf result DeclareFault.TooMany ↔ ((find name.now self.old ≡ None) × IsTrue (is_full kind self.old)) }
@@ -125,7 +146,9 @@ impl Names {
         ensures { result ≡ is_full kind self.now }
     {
         match kind {
-            NameKind::Location { .. } => self.locations() >= MAX_LOCATIONS,
+            NameKind::Location { .. } | NameKind::LocationWith { .. } => {
+                self.locations() >= max_locations(self.version)
+            }
             NameKind::Register { .. } | NameKind::Auxiliary => self.scalars() >= MAX_SCALARS,
         }
     }
@@ -134,7 +157,9 @@ impl Names {
         ensures { result ≡ next_place kind self.now }
     {
         match kind {
-            NameKind::Location { .. } => NameRef::Location(self.locations()),
+            NameKind::Location { .. } | NameKind::LocationWith { .. } => {
+                NameRef::Location(self.locations())
+            }
             NameKind::Register { .. } | NameKind::Auxiliary => NameRef::Scalar(self.scalars()),
         }
     }
@@ -142,24 +167,47 @@ impl Names {
     fn put(&mut self, name: &str, kind: NameKind) -> Result<(), AllocError>
         requires absent { find name.now self.old ≡ None }
         requires room { is_full kind self.old ≡ false }
+        requires join { MayJoin kind self.old }
         ensures ok { OnOk result (self.new ≡ with_name name.now kind self.old) }
         ensures err { OnErr result (self.new ≡ self.old) }
     {
         match kind {
-            NameKind::Location { init } => append(self.alloc, &mut self.locations, name, init),
-            NameKind::Register { owner } => append(
-                self.alloc,
-                &mut self.scalars,
-                name,
-                ScalarKind::Register { owner },
-            ),
-            NameKind::Auxiliary => append(
-                self.alloc,
-                &mut self.scalars,
-                name,
-                ScalarKind::Auxiliary,
-            ),
+            NameKind::Location { init } => self.put_location(name, init, self.lines),
+            NameKind::LocationWith { init } => self.put_location(name, init, self.lines - 1),
+            NameKind::Register { owner } => self.put_scalar(name, ScalarKind::Register { owner }),
+            NameKind::Auxiliary => self.put_scalar(name, ScalarKind::Auxiliary),
         }
+    }
+
+    /// Adds a location that stands on the last line or begins the next one.
+    fn put_location(&mut self, name: &str, init: u32, line: u8) -> Result<(), AllocError>
+        requires absent { find name.now self.old ≡ None }
+        requires room { length self.old.locations < most_locations self.old.version }
+        requires line { (line ≤ line_count (lines self.old)) × (line_count (lines self.old) ≤ line + 1) }
+        requires apart { self.old.version ≡ 1 → line ≡ length self.old.locations }
+        ensures ok { OnOk result (self.new ≡ with_location (record { name = name.now; init = init; line = line }) self.old) }
+        ensures err { OnErr result (self.new ≡ self.old) }
+    {
+        append(self.alloc, &mut self.locations, name, Placed { init, line })?;
+        self.lines = line + 1;
+        Ok(())
+    }
+
+    fn put_scalar(&mut self, name: &str, kind: ScalarKind) -> Result<(), AllocError>
+        requires absent { find name.now self.old ≡ None }
+        requires room { length self.old.scalars < most_scalars }
+        ensures ok { OnOk result (self.new ≡ record self.old { scalars = self.old.scalars ++ (name.now, kind) ∷ [] }) }
+        ensures err { OnErr result (self.new ≡ self.old) }
+    {
+        append(self.alloc, &mut self.scalars, name, kind)
+    }
+
+    /// The version of the language: 1 or 2.
+    pub fn version(&self) -> u32
+        ensures version { result ≡ self.now.version }
+        ensures one { IsVersion result }
+    {
+        self.version
     }
 
     /// The size of the domain of values.
@@ -172,10 +220,18 @@ impl Names {
     /// How many locations are declared.
     pub fn locations(&self) -> u8
         ensures count { result ≡ length self.now.locations }
-        ensures few { result ≤ most_locations }
+        ensures few { result ≤ most_locations_2 }
         ensures distinct { IsNameTable self.now }
     {
         self.locations.len() as u8
+    }
+
+    /// How many cache lines the locations stand on.
+    pub fn lines(&self) -> u8
+        ensures count { result ≡ line_count (lines self.now) }
+        ensures few { result ≤ length self.now.locations }
+    {
+        self.lines
     }
 
     /// How many scalars are declared.
@@ -189,7 +245,7 @@ impl Names {
     /// The name of the location with this number.
     pub fn location_name(&self, x: u8) -> &str
         requires { x < length self.now.locations }
-        ensures { option_map (λ e. e.0) (slice_get self.now.locations x) ≡ Some result.now }
+        ensures { option_map (λ l. l.name) (slice_get self.now.locations x) ≡ Some result.now }
     {
         match self.locations.get_index(usize::from(x)) {
             Some((name, _)) => name.as_str(),
@@ -200,10 +256,22 @@ impl Names {
     /// The initial value of the location with this number.
     pub fn init(&self, x: u8) -> u32
         requires { x < length self.now.locations }
-        ensures { option_map (λ e. e.1) (slice_get self.now.locations x) ≡ Some result }
+        ensures { option_map (λ l. l.init) (slice_get self.now.locations x) ≡ Some result }
     {
         match self.locations.get_index(usize::from(x)) {
-            Some((_, init)) => *init,
+            Some((_, placed)) => placed.init,
+            None => unreachable!(),
+        }
+    }
+
+    /// The cache line of the location with this number. Lines are numbered from 0, in the order of declaration.
+    pub fn line(&self, x: u8) -> u8
+        requires { x < length self.now.locations }
+        ensures line { option_map (λ l. l.line) (slice_get self.now.locations x) ≡ Some result }
+        ensures within { result < line_count (lines self.now) }
+    {
+        match self.locations.get_index(usize::from(x)) {
+            Some((_, placed)) => placed.line,
             None => unreachable!(),
         }
     }
@@ -232,10 +300,22 @@ impl Names {
     }
 }
 
+/// How many locations there may be in a version of the language.
+fn max_locations(version: u32) -> u8
+    ensures limit { result ≡ most_locations version }
+    ensures few { result ≤ most_locations_2 }
+{
+    if version == 1 {
+        MAX_LOCATIONS
+    } else {
+        MAX_LOCATIONS_2
+    }
+}
+
 /// The place of a name in a map of at most 255 names.
 fn index_of<V>(entries: &IndexMap<String, V>, name: &str) -> Option<u8>
     requires { length entries.now.entries ≤ 255 }
-    ensures { result ≡ place_in name.now (by_bytes entries.now.entries) }
+    ensures { result ≡ place_in name.now (map (λ e. e.0) (by_bytes entries.now.entries)) }
 {
     match entries.get_index_of(name) {
         Some(i) => Some(i as u8),
@@ -250,7 +330,7 @@ fn append<V: Drop>(
     name: &str,
     value: V,
 ) -> Result<(), AllocError>
-    requires { place_in name.now (by_bytes entries.old.entries) ≡ None }
+    requires { place_in name.now (map (λ e. e.0) (by_bytes entries.old.entries)) ≡ None }
     ensures ok { OnOk result (by_bytes entries.new.entries ≡ by_bytes entries.old.entries ++ (name.now, value) ∷ []) }
     ensures err { OnErr result (by_bytes entries.new.entries ≡ by_bytes entries.old.entries) }
 {

@@ -12,29 +12,29 @@ viewed P threads scalars = subst (λ (n : ℕ). P (option_map unknown_thread (un
 
 pub returns-in_err-check_domain : goal.returns-in_err-check_domain
 returns-in_err-check_domain c =
-    refuses _ _ c.from_residual.result c.in_err-check_domain.field-0.0 c.from_residual.ensures.1 (subst (λ (d : ℕ). IfSome (plain_fault c.in_err-check_domain.field-0.0) (λ g. domain_fault d ≡ Some g)) c.domain.ensures c.in_err-check_domain.ensures)
+    refuses _ _ c.from_residual.result c.in_err-check_domain.field-0.0 c.from_residual.ensures.1 c.in_err-check_domain.ensures
 
 pub returns-in_err-check_owners : goal.returns-in_err-check_owners
 returns-in_err-check_owners c =
-    passes_on _ _ _ (subst (λ (d : ℕ). domain_fault d ≡ None) c.domain.ensures c.in_ok-check_domain.ensures)
+    passes_on _ _ _ c.in_ok-check_domain.ensures
     (refuses _ _ c.from_residual-in_err-check_owners.result c.in_err-check_owners.field-0.0 c.from_residual-in_err-check_owners.ensures.1 (viewed (λ (f : Option Fault). IfSome (plain_fault c.in_err-check_owners.field-0.0) (λ g. f ≡ Some g)) c.args.threads.now c.args.names.now.scalars c.in_err-check_owners.ensures))
 
 pub returns-in_err-check_text : goal.returns-in_err-check_text
 returns-in_err-check_text c =
-    passes_on _ _ _ (subst (λ (d : ℕ). domain_fault d ≡ None) c.domain.ensures c.in_ok-check_domain.ensures)
+    passes_on _ _ _ c.in_ok-check_domain.ensures
     (passes_on _ _ _ (viewed (λ (f : Option Fault). f ≡ None) c.args.threads.now c.args.names.now.scalars c.in_ok-check_owners.ensures)
     (refuses _ _ c.from_residual-in_err-check_text.result c.in_err-check_text.field-0.0 c.from_residual-in_err-check_text.ensures.1 c.in_err-check_text.ensures))
 
 pub returns-in_err-check_text-2 : goal.returns-in_err-check_text-2
 returns-in_err-check_text-2 c =
-    passes_on _ _ _ (subst (λ (d : ℕ). domain_fault d ≡ None) c.domain.ensures c.in_ok-check_domain.ensures)
+    passes_on _ _ _ c.in_ok-check_domain.ensures
     (passes_on _ _ _ (viewed (λ (f : Option Fault). f ≡ None) c.args.threads.now c.args.names.now.scalars c.in_ok-check_owners.ensures)
     (passes_on _ _ _ c.in_ok-check_text.ensures
     (refuses _ _ c.from_residual-in_err-check_text-2.result c.in_err-check_text-2.field-0.0 c.from_residual-in_err-check_text-2.ensures.1 c.in_err-check_text-2.ensures)))
 
 pub returns-in_err-check_text-3 : goal.returns-in_err-check_text-3
 returns-in_err-check_text-3 c =
-    passes_on _ _ _ (subst (λ (d : ℕ). domain_fault d ≡ None) c.domain.ensures c.in_ok-check_domain.ensures)
+    passes_on _ _ _ c.in_ok-check_domain.ensures
     (passes_on _ _ _ (viewed (λ (f : Option Fault). f ≡ None) c.args.threads.now c.args.names.now.scalars c.in_ok-check_owners.ensures)
     (passes_on _ _ _ c.in_ok-check_text.ensures
     (passes_on _ _ _ c.in_ok-check_text-2.ensures
@@ -42,7 +42,7 @@ returns-in_err-check_text-3 c =
 
 pub returns-in_err-check_initial : goal.returns-in_err-check_initial
 returns-in_err-check_initial c =
-    passes_on _ _ _ (subst (λ (d : ℕ). domain_fault d ≡ None) c.domain.ensures c.in_ok-check_domain.ensures)
+    passes_on _ _ _ c.in_ok-check_domain.ensures
     (passes_on _ _ _ (viewed (λ (f : Option Fault). f ≡ None) c.args.threads.now c.args.names.now.scalars c.in_ok-check_owners.ensures)
     (passes_on _ _ _ c.in_ok-check_text.ensures
     (passes_on _ _ _ c.in_ok-check_text-2.ensures
@@ -51,7 +51,7 @@ returns-in_err-check_initial c =
 
 pub returns-in_err-check_text-4 : goal.returns-in_err-check_text-4
 returns-in_err-check_text-4 c =
-    passes_on _ _ _ (subst (λ (d : ℕ). domain_fault d ≡ None) c.domain.ensures c.in_ok-check_domain.ensures)
+    passes_on _ _ _ c.in_ok-check_domain.ensures
     (passes_on _ _ _ (viewed (λ (f : Option Fault). f ≡ None) c.args.threads.now c.args.names.now.scalars c.in_ok-check_owners.ensures)
     (passes_on _ _ _ c.in_ok-check_text.ensures
     (passes_on _ _ _ c.in_ok-check_text-2.ensures
@@ -61,7 +61,7 @@ returns-in_err-check_text-4 c =
 
 pub returns : goal.returns
 returns c =
-    passes_on _ _ _ (subst (λ (d : ℕ). domain_fault d ≡ None) c.domain.ensures c.in_ok-check_domain.ensures)
+    passes_on _ _ _ c.in_ok-check_domain.ensures
     (passes_on _ _ _ (viewed (λ (f : Option Fault). f ≡ None) c.args.threads.now c.args.names.now.scalars c.in_ok-check_owners.ensures)
     (passes_on _ _ _ c.in_ok-check_text.ensures
     (passes_on _ _ _ c.in_ok-check_text-2.ensures
