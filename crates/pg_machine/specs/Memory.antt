@@ -1,10 +1,16 @@
--- Memory: the initial values and the messages that the stores appended, in coherence order.
+-- Memory: the initial values and the cache lines of the locations, and the messages that the stores appended, in coherence
+-- order.
 use Rattle.std.specs.Prelude.{ℕ, zero, suc, Bool, true, false, not, ◌&&◌, ◌==◌, nat_le, nat_lt, if◌then◌else◌, List, [], ◌∷◌, ◌++◌, length, slice_index, slice_index_or}
 
--- the value of each location at first, and the messages, each with its location and value
+-- the value of each location at first, the cache line that each stands on, and the messages, each with its location and value
 pub record Memory : Type 0 where
   pub initial : List ℕ
+  pub lines : List ℕ
   pub messages : List (ℕ × ℕ)
+
+-- the line of a location
+abbrev pub line_of : Memory → ℕ → ℕ
+line_of m x = slice_index m.lines x
 
 -- message i, counted from 0, is to x
 abbrev pub is_to : List (ℕ × ℕ) → ℕ → ℕ → Bool

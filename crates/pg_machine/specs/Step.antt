@@ -7,7 +7,8 @@ use Rattle.pg_program.specs.declared.syntax.Act.TheOpen.{Act-F, Assign, Store, L
 use Rattle.pg_program.specs.declared.point.Branch.{Branch}
 use Rattle.pg_program.specs.declared.point.Branch.TheVariants.{Plain, Yes, No}
 use Rattle.pg_program.specs.Expr.{value, test_holds}
-use Rattle.pg_program.specs.Graph.{target_of}
+use Rattle.pg_program.specs.declared.point.Step.{Step}
+use Rattle.pg_program.specs.Graph.{step_of}
 use Rattle.pg_program.specs.Program.{ProgramTable, IsProgram, stmt_at, steps_at}
 use Rattle.pg_machine.specs.declared.event.Event.{Event}
 use Rattle.pg_machine.specs.Memory.{value_at, last_value}
@@ -42,7 +43,7 @@ Row d n r (If test a b) None left = left ≡ leaves n r
 Row d n r (While test a) None left = left ≡ leaves n r
 Row d n r act choice left = ⊥
 
--- The branch that is taken: of a test that of its truth.
+-- the branch that is taken: a test takes that of its truth
 abbrev pub branch_taken : ℕ → List ℕ → Act-F Act Stmt → Branch
 branch_taken d r (If test a b) = if test_holds r d test then Yes else No
 branch_taken d r (While test a) = if test_holds r d test then Yes else No
@@ -84,17 +85,20 @@ bracket_of stmt = (out-Stmt stmt).aux
 abbrev pub HasThread : ProgramTable → Event → Type 0
 HasThread p e = (1 ≤ e.thread) × (e.thread ≤ length p.threads)
 
--- The event's thread has a statement at its point, and its act leaves what its row says. The bracket takes effect with
--- it, and the thread goes where the branch that is taken leads.
-pub record IsStep (p : ProgramTable) (s : State) (e : Event) (next : State) : Type 0 where
+-- The event's thread has a statement at its point, and takes this one of the steps from there, that of the branch that is
+-- taken. The statement's act leaves what its row says, the bracket takes effect with it, and the thread goes where the step leads.
+pub record IsStepThrough (p : ProgramTable) (s : State) (e : Event) (step : Step) (next : State) : Type 0 where
   pub thread : HasThread p e
   pub stmt : Stmt
   pub stands : stmt_at p e.thread (point_of s e.thread) ≡ Some stmt
   pub left : Left
   pub row : Row p.names.domain (seen_by s e.thread) s.scalars (act_of stmt) e.choice left
-  pub target : ℕ
-  pub leads : target_of (branch_taken p.names.domain s.scalars (act_of stmt)) (steps_at p e.thread (point_of s e.thread)) ≡ Some target
-  pub becomes : next ≡ moved s e.thread (record left { scalars = bracket_done p.names.domain (bracket_of stmt) left.scalars }) target
+  pub taken : step_of (branch_taken p.names.domain s.scalars (act_of stmt)) (steps_at p e.thread (point_of s e.thread)) ≡ Some step
+  pub becomes : next ≡ moved s e.thread (record left { scalars = bracket_done p.names.domain (bracket_of stmt) left.scalars }) step.target
+
+-- the event leads to the next state through some step of the program
+abbrev pub IsStep : ProgramTable → State → Event → State → Type 0
+IsStep p s e next = (step : Step) × IsStepThrough p s e step next
 
 -- an event leads a state to one next state at most
 abbrev pub HasOneStep : Type 0

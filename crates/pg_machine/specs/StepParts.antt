@@ -12,12 +12,6 @@ use Rattle.pg_machine.specs.Held.{HeldMemory}
 abbrev pub seen_in : HeldMemory → Views → Seen
 seen_in m w = record { memory = m.memory; views = w }
 
--- a thread has each of its views at each location of the memory
-pub record AreSized (m : HeldMemory) (w : Views) : Type 0 where
-  pub coh : length w.coh ≡ length m.memory.initial
-  pub vpa : length w.vpa ≡ length m.memory.initial
-  pub vpc : length w.vpc ≡ length m.memory.initial
-
 -- each value of the memory is below d
 pub record AreBelow (d : ℕ) (m : HeldMemory) : Type 0 where
   pub initial : All (λ v. v < d) m.memory.initial

@@ -3,7 +3,7 @@
 ghost use Rattle.std.specs.Prelude.{◌≡◌, ◌+◌, ◌<◌, ◌≤◌, length, if◌then◌else◌, false, All, IsSome, Some, None, IfErr, OnOk, OnErr};
 ghost use Rattle.pg_program.specs.declared.syntax.Act.{out-Act};
 ghost use Rattle.pg_program.specs.Words.{outside_in, locations_in, scalars_of, locations_of};
-ghost use Rattle.pg_program.specs.Graph.{target_of};
+ghost use Rattle.pg_program.specs.Graph.{step_of};
 ghost use Rattle.pg_program.specs.Expr.{reads};
 ghost use Rattle.pg_machine.specs.Step.{Row, leaves, act_of, branch_taken, bracket_done};
 ghost use Rattle.pg_machine.specs.Fault.{RowFault};
@@ -185,7 +185,7 @@ fn move_views(act: &Act, domain: u32, views: &mut Views, scalars: &mut [u8])
     }
 }
 
-/// The branch that is taken: of a test that of its truth.
+/// The branch that is taken: a test takes that of its truth.
 pub fn branch_taken(act: &Act, scalars: &[u8], domain: u32) -> Branch
     requires domain { (2 ≤ domain) × (domain ≤ 6) }
     requires values { All (λ v. v < domain) scalars.now }
@@ -207,8 +207,8 @@ fn branch_of(holds: bool) -> Branch
 
 /// Where the step of a branch leads.
 pub fn target(steps: &[Step], branch: Branch) -> u8
-    requires { IsSome (target_of branch steps.now) }
-    ensures { target_of branch steps.now ≡ Some result }
+    requires { IsSome (step_of branch steps.now) }
+    ensures { option_map (λ s. s.target) (step_of branch steps.now) ≡ Some result }
 {
     match steps {
         [step, rest @ ..] => {

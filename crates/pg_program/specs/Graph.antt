@@ -85,7 +85,7 @@ is_branch Yes Yes = true
 is_branch No No = true
 is_branch b c = false
 
--- where the step of a branch leads, if there is one
-abbrev pub target_of : Branch → List Step → Option ℕ
-target_of b [] = None
-target_of b (s ∷ ss) = if is_branch b s.branch then Some s.target else target_of b ss
+-- the step of a branch, if there is one
+abbrev pub step_of : Branch → List Step → Option Step
+step_of b [] = None
+step_of b (s ∷ ss) = if is_branch b s.branch then Some s else step_of b ss
