@@ -3,7 +3,7 @@
 use Rattle.std.specs.Prelude.{ℕ, zero, suc, max, Bool, false, not, ◌&&◌, ◌||◌, ◌==◌, nat_le, length, slice_index}
 use Rattle.pg_assertion.specs.declared.atom.ViewAtom.{ViewAtom}
 use Rattle.pg_assertion.specs.declared.atom.ViewAtom.TheVariants.{Scalar, Last, Read, Persist, Async, Then, Newest, Ordered, Fenced}
-use Rattle.pg_machine.specs.Memory.{Memory, every_below, value_at, reaches, last, last_value}
+use Rattle.pg_machine.specs.Memory.{Memory, line_of, every_below, value_at, reaches, last, last_value}
 use Rattle.pg_machine.specs.State.{State, coh_of, vpa_of, maxcoh, ordered, committed}
 use Rattle.pg_machine.specs.Moves.{Seen, can_read, loaded}
 use Rattle.pg_machine.specs.Step.{views_of, seen_by}
@@ -56,7 +56,7 @@ reads_newest n x = every_position n.memory (λ p. not (can_read n x p) || (p == 
 
 -- O(t,x): the last position of x is covered by what a `flushopt` of x is ordered after
 abbrev pub covers_ordered : Seen → ℕ → Bool
-covers_ordered n x = nat_le (last n.memory.messages x) (ordered n.views x)
+covers_ordered n x = nat_le (last n.memory.messages x) (ordered n.memory.lines n.views (line_of n.memory x))
 
 -- F(t,x): the last position of x is covered by what a `flush` is ordered after
 abbrev pub covers_fenced : Seen → ℕ → Bool
@@ -64,13 +64,21 @@ covers_fenced n x = nat_le (last n.memory.messages x) (maxcoh n.views)
 
 -- ---- what a crash may leave
 
--- P(x,v): v is shown of all positions of x, up to what was committed to x
-abbrev pub may_persist : State → ℕ → ℕ → Bool
-may_persist s x v = is_shown s.memory x 0 (committed s x) v
+-- what was committed to the line of x
+abbrev pub committed_to : State → ℕ → ℕ
+committed_to s x = committed s (line_of s.memory x)
 
--- A(t,x,v): and up to what thread t has begun to write back, which its next fence commits
+-- and the greater of that and what thread t has begun to write back of the line, which its next fence commits
+abbrev pub committed_next : State → ℕ → ℕ → ℕ
+committed_next s t x = max (committed_to s x) (vpa_of (views_of s t) (line_of s.memory x))
+
+-- P(x,v): v is shown of all positions of x, up to what was committed to its line
+abbrev pub may_persist : State → ℕ → ℕ → Bool
+may_persist s x v = is_shown s.memory x 0 (committed_to s x) v
+
+-- A(t,x,v): v is shown of them, up to what a fence of thread t would commit
 abbrev pub may_persist_after_fence : State → ℕ → ℕ → ℕ → Bool
-may_persist_after_fence s t x v = is_shown s.memory x 0 (max (committed s x) (vpa_of (views_of s t) x)) v
+may_persist_after_fence s t x v = is_shown s.memory x 0 (committed_next s t x) v
 
 -- ---- atoms
 

@@ -1,19 +1,24 @@
 -- What a crash may leave.
-use Rattle.std.specs.Prelude.{◌≡◌, ℕ, suc, ◌<◌, Bool, true, List, [], ◌∷◌, length, slice_index}
+use Rattle.std.specs.Prelude.{◌≡◌, ℕ, suc, ◌<◌, max, Bool, true, List, [], ◌∷◌, length, slice_index}
 use Rattle.pg_assertion.specs.declared.atom.CrashAtom.{CrashAtom}
 use Rattle.pg_assertion.specs.Formula.{Plain}
-use Rattle.pg_machine.specs.Memory.{Memory, value_at, reaches}
-use Rattle.pg_machine.specs.State.{State, committed}
+use Rattle.pg_machine.specs.Memory.{Memory, line_of, value_at, reaches}
+use Rattle.pg_machine.specs.State.{State, greatest_on, committed}
 use Rattle.pg_views.specs.Formula.{holds_crash}
 
--- a crash may leave x as it is at p: p is a position of x after which no message to x was committed
-abbrev pub survives : State → ℕ → ℕ → Bool
-survives s x p = reaches s.memory.messages x 0 (committed s x) p
+-- Where a crash leaves the locations at these positions, the line l is cut at the greatest of them that stand on l, and at no
+-- less than what was committed to l: a line is written back as a whole.
+abbrev pub cut : State → List ℕ → ℕ → ℕ
+cut s ps l = max (committed s l) (greatest_on s.memory.lines ps l)
 
--- A crash leaves, of each location, the value at a position that survives. The choices for the locations are independent.
+-- Then x survives: its position is one of x, and no message to x stands after it up to the cut of its line.
+abbrev pub survives : State → List ℕ → ℕ → Bool
+survives s ps x = reaches s.memory.messages x 0 (cut s ps (line_of s.memory x)) (slice_index ps x)
+
+-- A crash leaves, of each location, the value at a position, so that each survives. The choices for the lines are independent.
 pub record IsCrashChoice (s : State) (ps : List ℕ) : Type 0 where
   pub size : length ps ≡ length s.memory.initial
-  pub positions : (x : ℕ) → x < length s.memory.initial → survives s x (slice_index ps x) ≡ true
+  pub positions : (x : ℕ) → x < length s.memory.initial → survives s ps x ≡ true
 
 -- the values at positions of the locations from x on
 abbrev pub values_at : Memory → ℕ → List ℕ → List ℕ

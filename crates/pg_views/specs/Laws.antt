@@ -72,7 +72,14 @@ RaisesViews =
     ((w : Views) (r : ℕ) → w.vrn ≤ r → IsRaised w (record w { vrn = r }))
     × ((w : Views) (x p r : ℕ) → coh_of w x ≤ p → w.vrn ≤ r → p ≤ r → IsRaised w (record w { coh = slice_set w.coh x p; vrn = r }))
 
--- Then what may be read, and what may be read after a load, only shrinks.
+-- Then the positions at which the thread may read only shrink, those before and those after a load.
+abbrev pub RaisedReachesLess : Type 0
+RaisedReachesLess =
+    (n : Seen) (v : Views) → IsRaised n.views v
+    → ((y q : ℕ) → can_read (record n { views = v }) y q ≡ true → can_read n y q ≡ true)
+    × ((x p y q : ℕ) → can_read (loaded (record n { views = v }) x p) y q ≡ true → can_read (loaded n x p) y q ≡ true)
+
+-- And so do the values that it may read, and that it may read after a load.
 abbrev pub RaisedReadsLess : Type 0
 RaisedReadsLess =
     (n : Seen) (v : Views) → IsRaised n.views v

@@ -7,6 +7,8 @@ pub mod Parts
 pub mod CrashLaw
 pub mod Laws
 pub mod Axioms
+pub mod Valuation
+pub mod Version1
 pub use Rattle.pg_machine.specs.Limits
 pub use Rattle.pg_machine.specs.Memory
 pub use Rattle.pg_machine.specs.State
