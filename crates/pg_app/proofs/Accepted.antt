@@ -2,9 +2,8 @@
 use Rattle.std.proofs.Common.{ℕ}
 use Rattle.pg_judge.specs.declared.judgement.PathJudgement.TheVariants.{Accepted, Rejected}
 use Rattle.pg_judge.specs.declared.outline.PathOutline.{PathOutline}
-use Rattle.pg_judge.specs.Form.{IsOfForm}
+use Rattle.pg_judge.specs.Form.{IsOfForm, outline}
 use Rattle.pg_judge.specs.Judgement.{Judges, IsProvedIfAccepted}
-use Rattle.pg_judge.specs.Meaning.{outline}
 use Rattle.pg_judge.specs.Path.{path}
 use Rattle.pg_app.specs.Outcome.{IsNumber, IsAcceptance, IsRejection}
 use Rattle.pg_app.proofs.Paths.{own_path}

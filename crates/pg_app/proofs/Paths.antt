@@ -9,8 +9,7 @@ use Rattle.pg_program.specs.Straight.{straight}
 use Rattle.pg_outline.specs.Outline.{OutlineTable}
 use Rattle.pg_judge.specs.declared.outline.PathLit.{PathLit}
 use Rattle.pg_judge.specs.declared.outline.PathOutline.{PathOutline}
-use Rattle.pg_judge.specs.Form.{literal_of, joined, formula_of, IsOfForm}
-use Rattle.pg_judge.specs.Meaning.{outline}
+use Rattle.pg_judge.specs.Form.{literal_of, joined, formula_of, IsOfForm, outline}
 use Rattle.pg_judge.specs.Path.{Path, path}
 use Rattle.pg_judge.specs.Reading.{literal_in}
 use Rattle.pg_app.specs.Path.{HasPath}

@@ -2,8 +2,7 @@
 //! rejected with the first that does not, and not judged yet where it has not the first form.
 
 ghost use Rattle.std.specs.Prelude.{◌≡◌, IfOk};
-ghost use Rattle.pg_judge.specs.Form.{IsOfForm};
-ghost use Rattle.pg_judge.specs.Meaning.{outline};
+ghost use Rattle.pg_judge.specs.Form.{IsOfForm, outline};
 ghost use Rattle.pg_judge.specs.Path.{path, IsPath};
 ghost use Rattle.pg_app.specs.Outcome.{IsOutcome, IsPrintable};
 

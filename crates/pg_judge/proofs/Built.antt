@@ -11,12 +11,11 @@ use Rattle.pg_assertion.specs.declared.atom.ViewAtom.{ViewAtom}
 use Rattle.pg_assertion.specs.Formula.{Plain}
 use Rattle.pg_judge.specs.declared.outline.PathLit.{PathLit}
 use Rattle.pg_judge.specs.declared.outline.PathOutline.{PathOutline}
-use Rattle.pg_judge.specs.Form.{formula_of}
+use Rattle.pg_judge.specs.Form.{formula_of, outline}
 use Rattle.pg_judge.specs.Path.{path, IsPath, HasStores}
 use Rattle.pg_judge.specs.Judgement.{Judges, IsProvedIfAccepted}
 use Rattle.pg_judge.specs.declared.judgement.PathJudgement.{PathJudgement}
 use Rattle.pg_judge.specs.declared.judgement.PathJudgement.TheVariants.{Accepted, Rejected}
-use Rattle.pg_judge.specs.Meaning.{outline}
 use Rattle.pg_judge.proofs.Safe.{IsOf, safe, starts}
 use Rattle.pg_judge.proofs.Stores.{few_stores}
 

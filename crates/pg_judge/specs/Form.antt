@@ -1,11 +1,12 @@
 -- The first form of outlines: one thread of stores of numbers, with conjunctions of literals on last values.
-use Rattle.std.specs.Prelude.{◌≡◌, ◌≤◌, List, [], ◌∷◌, length, All, IsSome, if◌then◌else◌}
+use Rattle.std.specs.Prelude.{◌≡◌, ◌≤◌, List, [], ◌∷◌, length, map, All, IsSome, if◌then◌else◌}
 use Rattle.pg_assertion.specs.declared.atom.ViewAtom.{ViewAtom}
 use Rattle.pg_assertion.specs.declared.atom.ViewAtom.TheVariants.{Last}
 use Rattle.pg_assertion.specs.Formula.{Plain, top, atom, neg, both}
 use Rattle.pg_program.specs.Straight.{straight}
 use Rattle.pg_outline.specs.Outline.{OutlineTable}
 use Rattle.pg_judge.specs.declared.outline.PathLit.{PathLit}
+use Rattle.pg_judge.specs.declared.outline.PathOutline.{PathOutline}
 use Rattle.pg_judge.specs.Limits.{most_literals}
 
 -- ---- conjunctions
@@ -35,6 +36,15 @@ pub record IsConjunction (f : Plain ViewAtom) : Type 0 where
   pub are : IsConjunctionOf f literals
 
 -- ---- outlines
+
+-- the outline that a path stands for: one thread, and the crash formula `true`
+abbrev pub outline : PathOutline → OutlineTable
+outline o = record {
+  program = o.program.now;
+  pre = formula_of o.pre.items;
+  crash = top;
+  notes = map (λ n. formula_of n.items) o.notes.items ∷ [];
+}
 
 -- an outline of the first form: no scalars, one thread of stores of numbers without brackets, the crash formula `true`, and
 -- conjunctions of literals

@@ -10,8 +10,7 @@ use Rattle.pg_judge.specs.declared.outline.PathLit.{PathLit}
 use Rattle.pg_judge.specs.declared.outline.PathOutline.{PathOutline}
 use Rattle.pg_judge.specs.Limits.{most_literals}
 use Rattle.pg_judge.specs.Path.{path, IsPath}
-use Rattle.pg_judge.specs.Form.{formula_of, IsConjunction, IsOfForm}
-use Rattle.pg_judge.specs.Meaning.{outline}
+use Rattle.pg_judge.specs.Form.{formula_of, IsConjunction, IsOfForm, outline}
 
 -- a part of what is found meets P; and where nothing is found, nothing meets it
 abbrev pub Finds : {A V : Type 0} → (V → A) → (A → Type 0) → Option V → Type 0

@@ -4,7 +4,7 @@ ghost use Rattle.std.specs.Prelude.{◌≡◌, ℕ, ◌+◌, ◌*◌, ◌<◌, �
 ghost use Rattle.pg_program.specs.NameTable.{initial};
 ghost use Rattle.pg_program.specs.Straight.{straight};
 ghost use Rattle.pg_judge.specs.Path.{path, IsPath, HasStores, count, Follows};
-ghost use Rattle.pg_judge.specs.Meaning.{outline};
+ghost use Rattle.pg_judge.specs.Form.{outline};
 ghost use Rattle.pg_judge.specs.Limits.{most_obligations};
 ghost use Rattle.pg_judge.specs.Judgement.{Judges, IsProvedIfAccepted, number_of};
 
