@@ -2,6 +2,7 @@
 -- at the end tie it to the list of all atoms in their order.
 use Rattle.std.specs.Prelude.{◌≡◌, ℕ, ◌+◌, ◌-◌, ◌*◌, ◌<◌, ◌≤◌, List, ◌++◌, length, map, Some, slice_get}
 use Rattle.std.specs.List.{flat_map, range_with_len}
+use Rattle.pg_program.specs.Limits.{least_domain, largest_domain_2, most_scalars, most_locations_2, most_threads}
 use Rattle.pg_program.specs.NameTable.{NameTable}
 use Rattle.pg_assertion.specs.Limits.{most_atoms}
 use Rattle.pg_assertion.specs.declared.atom.ViewAtom.{ViewAtom}
@@ -171,12 +172,12 @@ number_on l a After = number l a + atoms l
 
 -- what a layout keeps to, so that its numbers stay small
 pub record IsWithinLimits (l : Sizes) : Type 0 where
-  pub some_values : 2 ≤ l.domain
-  pub few_values : l.domain ≤ 6
-  pub few_scalars : l.scalars ≤ 16
-  pub few_locations : l.locations ≤ 8
+  pub some_values : least_domain ≤ l.domain
+  pub few_values : l.domain ≤ largest_domain_2
+  pub few_scalars : l.scalars ≤ most_scalars
+  pub few_locations : l.locations ≤ most_locations_2
   pub some_threads : 1 ≤ l.threads
-  pub few_threads : l.threads ≤ 4
+  pub few_threads : l.threads ≤ most_threads
 
 -- An atom with the number n stands at the place n of the list, which counts from 1.
 abbrev pub AtomsStandInOrder : Type 0
@@ -193,7 +194,9 @@ AtomsAreCounted = (l : Sizes) → length (atoms_in_order l) ≡ atoms l
 
 -- Of the layouts within the limits the largest has as many atoms as a side may have.
 abbrev pub LargestHasMost : Type 0
-LargestHasMost = (l : Sizes) → l.domain ≡ 6 → l.scalars ≡ 16 → l.locations ≡ 8 → l.threads ≡ 4 → atoms l ≡ most_atoms
+LargestHasMost =
+    (l : Sizes) → l.domain ≡ largest_domain_2 → l.scalars ≡ most_scalars → l.locations ≡ most_locations_2 → l.threads ≡ most_threads
+    → atoms l ≡ most_atoms
 
 -- No two atoms have one number.
 abbrev pub NumbersTellAtomsApart : Type 0

@@ -2,6 +2,7 @@
 //! definition in `specs/Expansion.antt`.
 
 ghost use Rattle.std.specs.Prelude.{◌≡◌, ℕ, ◌<◌, ◌≤◌, ◌↔◌, IsErrOf, length, map, option_map, IfOk, OnOk};
+ghost use Rattle.pg_program.specs.Limits.{IsDomainSize};
 ghost use Rattle.pg_assertion.specs.Limits.{most_nodes, most_named, most_expansion_nodes};
 ghost use Rattle.pg_assertion.specs.Formula.{plain, nodes, AllAtoms};
 ghost use Rattle.pg_assertion.specs.Expansion.{mentions, named, value_in, fill, constant, HasValueBelow, conjunction, can_persist, term, terms, joined, joined_all, or_true, expansion_over, expansion, expansion_size, ExpansionsHaveTheirSize, VectorsAreTheChoices, IsAtomOf};
@@ -35,7 +36,7 @@ pub fn expand(
     f: &Formula<CrashAtom>,
     names: &Names,
 ) -> Result<Formula<ViewAtom>, ExpandFault>
-    requires domain { (2 ≤ names.now.domain) × (names.now.domain ≤ 6) }
+    requires domain { IsDomainSize names.now.domain }
     requires few_nodes { nodes (plain f.now) ≤ most_nodes }
     requires atoms { AllAtoms (IsAtomOf names.now) (plain f.now) }
     requires few_locations { length (named (length names.now.locations) (plain f.now)) ≤ most_named }
@@ -69,7 +70,7 @@ pub fn vectors_are_the_choices()
 
 /// The number of nodes of the expansion, which is not built.
 fn expansion_size(f: &Formula<CrashAtom>, domain: u8, locations: u8) -> u64
-    requires domain { (1 ≤ domain) × (domain ≤ 6) }
+    requires domain { IsDomainSize domain }
     requires few_nodes { nodes (plain f.now) ≤ most_nodes }
     requires few_locations { length (named locations (plain f.now)) ≤ most_named }
     ensures { result ≡ expansion_size domain (length (named locations (plain f.now))) (nodes (plain f.now)) }

@@ -48,13 +48,14 @@ impl Model for Layout {
 }
 
 impl Layout {
+    ghost use Rattle.pg_program.specs.Limits.{IsDomainSize, most_threads};
     ghost use Rattle.pg_assertion.specs.Limits.{most_atoms};
     ghost use Rattle.pg_assertion.specs.Layout.{sizes, scalar_cells, cells, seen_cells, cell_pairs, thread_locations, scalar_place, cell_place, seen_place, pair_place, view_place, last_start, read_start, persist_start, async_start, then_start, newest_start, ordered_start, fenced_start};
 
     /// The layout over these names and this many threads.
     pub fn of(names: &Names, threads: u8) -> Layout
-        requires domain { (2 ≤ names.now.domain) × (names.now.domain ≤ 6) }
-        requires threads { (1 ≤ threads) × (threads ≤ 4) }
+        requires domain { IsDomainSize names.now.domain }
+        requires threads { (1 ≤ threads) × (threads ≤ most_threads) }
         ensures { result ≡ sizes names.now threads }
     {
         Layout {
@@ -63,6 +64,35 @@ impl Layout {
             locations: u32::from(names.locations()),
             threads: u32::from(threads),
         }
+    }
+
+    /// How many values, scalars, locations and threads there are.
+    pub fn domain(&self) -> u32
+        ensures count { result ≡ self.now.domain }
+        ensures limits { IsWithinLimits self.now }
+    {
+        self.domain
+    }
+
+    pub fn scalars(&self) -> u32
+        ensures count { result ≡ self.now.scalars }
+        ensures limits { IsWithinLimits self.now }
+    {
+        self.scalars
+    }
+
+    pub fn locations(&self) -> u32
+        ensures count { result ≡ self.now.locations }
+        ensures limits { IsWithinLimits self.now }
+    {
+        self.locations
+    }
+
+    pub fn threads(&self) -> u32
+        ensures count { result ≡ self.now.threads }
+        ensures limits { IsWithinLimits self.now }
+    {
+        self.threads
     }
 
     /// How many atoms a side has.
