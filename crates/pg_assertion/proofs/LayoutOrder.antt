@@ -236,7 +236,7 @@ number_within l a p =
     let below : place_of l a < length (atoms_in_order l) = slice_get_within (atoms_in_order l) (place_of l a) a (stands l a p) in
     (omega arith, omega (arith, below, atoms_are_counted l))
 
-has_atom : (l : Sizes) (n : ℕ) → 1 ≤ n → n ≤ atoms l → (a : ViewAtom) × IsAtom l a × (number l a ≡ n)
+pub has_atom : (l : Sizes) (n : ℕ) → 1 ≤ n → n ≤ atoms l → (a : ViewAtom) × IsAtom l a × (number l a ≡ n)
 has_atom l n from to = by (slice_get_cases (atoms_in_order l) (n - 1)).1
   where
     by : (((a : ViewAtom) × (n - 1 < length (atoms_in_order l)) × (slice_get (atoms_in_order l) (n - 1) ≡ Some a) × (get_or (atoms_in_order l) (n - 1) a ≡ a))

@@ -5,3 +5,4 @@ pub mod LayoutOrder
 pub mod ExpansionChoices
 pub mod ExpansionSizes
 pub mod ExpansionTerms
+pub mod StepNumbers

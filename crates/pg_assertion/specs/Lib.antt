@@ -3,3 +3,4 @@ pub mod Expansion
 pub mod Formula
 pub mod Layout
 pub mod Limits
+pub mod StepAtom
