@@ -9,7 +9,8 @@ use Rattle.pg_lex.specs.declared.token.Sign.TheVariants as s
 use Rattle.pg_lex.specs.Piece.{is_lower, is_digit, is_letter, value, value_from}
 use Rattle.pg_lex.specs.Lex.{Cursor}
 use Rattle.pg_lex.specs.Grammar.{AllIn, Begins, Stops}
-use Rattle.pg_program.specs.NameTable.{NameTable, IsNameTable}
+use Rattle.pg_program.specs.declared.name_table.ScalarKind.{ScalarKind}
+use Rattle.pg_program.specs.NameTable.{NameTable, Location, IsNameTable}
 use Rattle.pg_assertion.specs.declared.atom.ViewAtom.{ViewAtom}
 use Rattle.pg_assertion.specs.declared.atom.ViewAtom.TheVariants as view
 use Rattle.pg_assertion.specs.declared.atom.CrashAtom.{CrashAtom}
@@ -79,44 +80,44 @@ number_spells names n small =
 -- ---- names
 
 -- what a place of a table has
-record HasName {V : Type 0} (entries : List (List ℕ × V)) (i : ℕ) : Type 0 where
-  name : List ℕ
-  entry : V
-  stands : slice_get entries i ≡ Some (name, entry)
-  is_name : IsName name
+record HasName {E : Type 0} (name : E → List ℕ) (entries : List E) (i : ℕ) : Type 0 where
+  entry : E
+  stands : slice_get entries i ≡ Some entry
+  is_name : IsName (name entry)
 
-has_name : {V : Type 0} (entries : List (List ℕ × V)) (i : ℕ) → All (λ e. IsName e.0) entries → i < length entries → HasName entries i
-has_name {V} entries i are within =
+has_name : {E : Type 0} (name : E → List ℕ) (entries : List E) (i : ℕ) → All (λ e. IsName (name e)) entries → i < length entries → HasName name entries i
+has_name name entries i are within =
     elim (slice_get_cases entries i).1 [
-      | inl e ↦ record {
-        name = e.0.0;
-        entry = e.0.1;
-        stands = e.2;
-        is_name = subst (λ (x : List ℕ × V). IsName x.0) e.3 (are i e.0 e.1);
-      }
+      | inl e ↦ record { entry = e.0; stands = e.2; is_name = subst (λ x. IsName (name x)) e.3 (are i e.0 e.1) }
       | inr e ↦ absurd (omega (arith, e.0, within))
     ]
 
-name_is : {V : Type 0} (entries : List (List ℕ × V)) (i : ℕ) (h : HasName entries i) → h.name ≡ name_in entries i
-name_is {V} entries i h = sym (ap (λ (o : Option (List ℕ × V)). unwrap_or (option_map (λ e. e.0) o) []) h.stands)
+name_is : {E : Type 0} (name : E → List ℕ) (entries : List E) (i : ℕ) (h : HasName name entries i) → name h.entry ≡ name_in name entries i
+name_is {E} name entries i h = sym (ap (λ (o : Option E). unwrap_or (option_map name o) []) h.stands)
 
 pub location_spells : (names : NameTable) (x : ℕ) → IsNameTable names → AreNames names → x < length names.locations
     → Spells Ends (Stands names (location x)) (location_name names x)
 location_spells names x table are within =
-    let h = has_name names.locations x are.locations within in
-    subst (Spells Ends (Stands names (location x))) (name_is names.locations x h)
-    (word_stands names (location x) h.name (λ place. (refl, h.is_name.free, table.own_location x h.entry h.name h.stands)) h.is_name.begins h.is_name.word h.is_name.short)
+    let h = has_name (λ (l : Location). l.name) names.locations x are.locations within in
+    subst (Spells Ends (Stands names (location x))) (name_is (λ (l : Location). l.name) names.locations x h)
+    (word_stands names (location x) h.entry.name (λ place. (refl, h.is_name.free, table.own_location x h.entry h.stands)) h.is_name.begins h.is_name.word h.is_name.short)
 
 pub scalar_spells : (names : NameTable) (r : ℕ) → IsNameTable names → AreNames names → r < length names.scalars
     → Spells Ends (Stands names (scalar r)) (scalar_name names r)
 scalar_spells names r table are within =
-    let h = has_name names.scalars r are.scalars within in
-    subst (Spells Ends (Stands names (scalar r))) (name_is names.scalars r h)
-    (word_stands names (scalar r) h.name (λ place. (refl, h.is_name.free, table.own_scalar r h.entry h.name h.stands)) h.is_name.begins h.is_name.word h.is_name.short)
+    let h = has_name (λ (e : List ℕ × ScalarKind). e.0) names.scalars r are.scalars within in
+    subst (Spells Ends (Stands names (scalar r))) (name_is (λ (e : List ℕ × ScalarKind). e.0) names.scalars r h)
+    (word_stands names (scalar r) h.entry.0 (λ place. (refl, h.is_name.free, table.own_scalar r h.entry.1 h.entry.0 h.stands)) h.is_name.begins h.is_name.word h.is_name.short)
 
-pub name_begins : {V : Type 0} (entries : List (List ℕ × V)) (i : ℕ) → All (λ e. IsName e.0) entries → i < length entries → Begins is_lower (name_in entries i)
-name_begins entries i are within =
-    let h = has_name entries i are within in subst (Begins is_lower) (name_is entries i h) h.is_name.begins
+name_begins : {E : Type 0} (name : E → List ℕ) (entries : List E) (i : ℕ) → All (λ e. IsName (name e)) entries → i < length entries → Begins is_lower (name_in name entries i)
+name_begins name entries i are within =
+    let h = has_name name entries i are within in subst (Begins is_lower) (name_is name entries i h) h.is_name.begins
+
+pub location_begins : (names : NameTable) (x : ℕ) → AreNames names → x < length names.locations → Begins is_lower (location_name names x)
+location_begins names x are within = name_begins (λ (l : Location). l.name) names.locations x are.locations within
+
+pub scalar_begins : (names : NameTable) (r : ℕ) → AreNames names → r < length names.scalars → Begins is_lower (scalar_name names r)
+scalar_begins names r are within = name_begins (λ (e : List ℕ × ScalarKind). e.0) names.scalars r are.scalars within
 
 -- ---- items
 
@@ -169,7 +170,7 @@ pub raw_spelled : (names : NameTable) (a : ViewAtom) → IsNameTable names → A
     → IsSpelled (IsRaw names) raw_of (spell_atom names) a
 raw_spelled names (view.Scalar r k) table are h = record {
   spells = equation_spells names (scalar r) (scalar_name names r) k (scalar_spells names r table are h.0) h.1;
-  begins = λ more. equation_begins (scalar_name names r) _ more (name_begins names.scalars r are.scalars h.0);
+  begins = λ more. equation_begins (scalar_name names r) _ more (scalar_begins names r are h.0);
 }
 raw_spelled names (view.Last x v) table are h = record {
   spells = applied_spells names 76 (location x ∷ number v ∷ []) (location_name names x ∷ decimal v ∷ []) refl (location_spells names x table are h.0, (number_spells names v h.1, tt));
@@ -209,9 +210,9 @@ pub crash_spelled : (names : NameTable) (a : CrashAtom) → IsNameTable names �
     → IsSpelled (IsCrash names) (λ b. b) (spell_crash names) a
 crash_spelled names (crash.Scalar r k) table are h = record {
   spells = equation_spells names (scalar r) (scalar_name names r) k (scalar_spells names r table are h.0) h.1;
-  begins = λ more. equation_begins (scalar_name names r) _ more (name_begins names.scalars r are.scalars h.0);
+  begins = λ more. equation_begins (scalar_name names r) _ more (scalar_begins names r are h.0);
 }
 crash_spelled names (crash.Location x v) table are h = record {
   spells = equation_spells names (location x) (location_name names x) v (location_spells names x table are h.0) h.1;
-  begins = λ more. equation_begins (location_name names x) _ more (name_begins names.locations x are.locations h.0);
+  begins = λ more. equation_begins (location_name names x) _ more (location_begins names x are h.0);
 }

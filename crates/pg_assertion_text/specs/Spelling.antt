@@ -14,14 +14,15 @@ use Rattle.pg_assertion_text.specs.Grammar.{Rule, unary, conj, disj, formula}
 
 -- ---- names
 
-abbrev pub name_in : {V : Type 0} → List (List ℕ × V) → ℕ → List ℕ
-name_in entries i = unwrap_or (option_map (λ e. e.0) (slice_get entries i)) []
+-- the name that stands at a place
+abbrev pub name_in : {E : Type 0} → (E → List ℕ) → List E → ℕ → List ℕ
+name_in name entries i = unwrap_or (option_map name (slice_get entries i)) []
 
 abbrev pub location_name : NameTable → ℕ → List ℕ
-location_name names x = name_in names.locations x
+location_name names x = name_in (λ l. l.name) names.locations x
 
 abbrev pub scalar_name : NameTable → ℕ → List ℕ
-scalar_name names r = name_in names.scalars r
+scalar_name names r = name_in (λ e. e.0) names.scalars r
 
 -- ---- atoms
 
@@ -110,7 +111,7 @@ pub record IsName (w : List ℕ) : Type 0 where
 
 -- the names of a table are names of the grammar
 pub record AreNames (t : NameTable) : Type 0 where
-  pub locations : All (λ e. IsName e.0) t.locations
+  pub locations : All (λ l. IsName l.name) t.locations
   pub scalars : All (λ e. IsName e.0) t.scalars
 
 -- a text may follow a word or a number
