@@ -174,14 +174,14 @@ one_fault p s e f g h k = acts p s e f h g k
 
 act-none : (p : ProgramTable) (s : State) (e : Event) (f : StepFault) (next : State) → ActFault p s e f → IsStep p s e next → length next.memory.messages ≤ most_messages → ⊥
 act-none p s e f next h step few =
-    let same = stands-one (stmt_at p e.thread (point_of s e.thread)) h.stmt step.stmt h.stands step.stands in
+    let same = stands-one (stmt_at p e.thread (point_of s e.thread)) h.stmt step.1.stmt h.stands step.1.stands in
     let row = subst (λ (a : Stmt). RowFault p.names.domain (seen_by s e.thread) s.scalars (act_of a) e.choice f) same h.row in
-    let long = ap (λ (n : State). length n.memory.messages) step.becomes in
-    row-none p.names.domain (seen_by s e.thread) s.scalars (act_of step.stmt) e.choice f step.left row step.row (omega (arith, long, few))
+    let long = ap (λ (n : State). length n.memory.messages) step.1.becomes in
+    row-none p.names.domain (seen_by s e.thread) s.scalars (act_of step.1.stmt) e.choice f step.1.left row step.1.row (omega (arith, long, few))
 
 pub fault_has_no_step : (p : ProgramTable) (s : State) (e : Event) (f : StepFault) (next : State) → IsFault p s e f → IsStep p s e next → length next.memory.messages ≤ most_messages → ⊥
-fault_has_no_step p s e (NoThread t) next h step few = outside p e t h.0 h.1 step.thread
-fault_has_no_step p s e Ended next h step few = let a = h.1 in let b = step.stands in cc
+fault_has_no_step p s e (NoThread t) next h step few = outside p e t h.0 h.1 step.1.thread
+fault_has_no_step p s e Ended next h step few = let a = h.1 in let b = step.1.stands in cc
 fault_has_no_step p s e f next h step few = act-none p s e f next h step few
 
 -- ---- the answer of a step

@@ -2,16 +2,16 @@
 use Rattle.std.proofs.Common.{◌≡◌, ℕ, zero, suc, ◌+◌, ◌<◌, List, [], ◌∷◌, ◌++◌, length, map, take, get_or, Some, option_map, slice_get, ap, ◌∙◌, arith}
 use Rattle.std.proofs.Math.Seq.{take-suc}
 
--- the second part of a pair in a list
-pub record IsSecond {X : Type 0} (es : List (X × ℕ)) (i v : ℕ) : Type 0 where
-  pub inside : i < length (map (λ e. e.1) es)
-  pub is : v ≡ get_or (map (λ e. e.1) es) i 0
+-- v is the number of the item at place i
+pub record IsNumberAt {X : Type 0} (f : X → ℕ) (es : List X) (i v : ℕ) : Type 0 where
+  pub inside : i < length (map f es)
+  pub is : v ≡ get_or (map f es) i 0
 
-pub second_of : {X : Type 0} (es : List (X × ℕ)) (i v : ℕ) → option_map (λ e. e.1) (slice_get es i) ≡ Some v → IsSecond es i v
-second_of [] i v h = cc
-second_of (e ∷ es) zero v h = record { inside = omega arith; is = let same : e.1 ≡ v = cc in cc }
-second_of (e ∷ es) (suc i) v h =
-    let rest = second_of es i v h in
+pub number_at : {X : Type 0} (f : X → ℕ) (es : List X) (i v : ℕ) → option_map f (slice_get es i) ≡ Some v → IsNumberAt f es i v
+number_at f [] i v h = cc
+number_at f (e ∷ es) zero v h = record { inside = omega arith; is = let same : f e ≡ v = cc in cc }
+number_at f (e ∷ es) (suc i) v h =
+    let rest = number_at f es i v h in
     let inside = rest.inside in
     record { inside = omega (arith, inside); is = rest.is }
 

@@ -10,7 +10,7 @@ use Rattle.pg_program.specs.declared.syntax.Act.TheOpen.{Act-F, Assign, Store, L
 use Rattle.pg_program.specs.Words.{locations_in}
 use Rattle.pg_program.specs.Program.{ProgramTable, IsProgram}
 use Rattle.pg_machine.specs.declared.event.Event.{Event}
-use Rattle.pg_machine.specs.Memory.{Memory}
+use Rattle.pg_machine.specs.Memory.{Memory, line_of}
 use Rattle.pg_machine.specs.State.{Views, State, greatest, coh_of, maxcoh, vpa_of, vpc_of, ordered, committed, point_of, AreViews, IsWellFormed}
 use Rattle.pg_machine.specs.Moves.{Seen, store_seen, load_seen, mfence_seen, sfence_seen, flush_seen, flushopt_seen, swap_seen}
 use Rattle.pg_machine.specs.Step.{Left, Row, IsStep, act_of, moved, seen_by, views_of}
@@ -27,8 +27,8 @@ pub record Grows (w v : Views) : Type 0 where
   pub coh : (x : ℕ) → coh_of w x ≤ coh_of v x
   pub read : w.vrn ≤ v.vrn
   pub ready : w.vpr ≤ v.vpr
-  pub asynchronous : (x : ℕ) → vpa_of w x ≤ vpa_of v x
-  pub committed : (x : ℕ) → vpc_of w x ≤ vpc_of v x
+  pub asynchronous : (l : ℕ) → vpa_of w l ≤ vpa_of v l
+  pub committed : (l : ℕ) → vpc_of w l ≤ vpc_of v l
 
 pub stays : (w : Views) → Grows w w
 stays w = record { coh = λ x. omega arith; read = omega arith; ready = omega arith; asynchronous = λ x. omega arith; committed = λ x. omega arith }
@@ -42,9 +42,9 @@ grows-on u v w h k = record {
   committed = λ x. let a = h.committed x in let b = k.committed x in omega (arith, a, b);
 }
 
--- what is written back is committed, of each location
-back-grows : (m : Memory) (w : Views) → AreViews m w → (x : ℕ) → vpc_of w x ≤ vpc_of (mfence_seen w) x
-back-grows m w h x = let e = greater-at w.vpc w.vpa x (h.size.1.1 ∙ sym h.size.1.0) in omega (arith, e)
+-- what is written back is committed, of each line
+back-grows : (m : Memory) (w : Views) → AreViews m w → (l : ℕ) → vpc_of w l ≤ vpc_of (mfence_seen w) l
+back-grows m w h l = let e = greater-at w.vpc w.vpa l (h.size.vpc ∙ sym h.size.vpa) in omega (arith, e)
 
 mfence-grows : (m : Memory) (w : Views) → AreViews m w → Grows w (mfence_seen w)
 mfence-grows m w h = record {
@@ -86,21 +86,21 @@ load-grows w x p le = record {
   committed = λ y. omega arith;
 }
 
-flush-grows : (w : Views) (x : ℕ) → Grows w (flush_seen w x)
-flush-grows w x = record {
+flush-grows : (w : Views) (l : ℕ) → Grows w (flush_seen w l)
+flush-grows w l = record {
   coh = λ y. omega arith;
   read = omega arith;
   ready = omega arith;
-  asynchronous = λ y. set-grows w.vpa x (max (vpa_of w x) (maxcoh w)) y (omega arith);
-  committed = λ y. set-grows w.vpc x (max (vpc_of w x) (maxcoh w)) y (omega arith);
+  asynchronous = λ y. set-grows w.vpa l (max (vpa_of w l) (maxcoh w)) y (omega arith);
+  committed = λ y. set-grows w.vpc l (max (vpc_of w l) (maxcoh w)) y (omega arith);
 }
 
-flushopt-grows : (w : Views) (x : ℕ) → Grows w (flushopt_seen w x)
-flushopt-grows w x = record {
+flushopt-grows : (on : List ℕ) (w : Views) (l : ℕ) → Grows w (flushopt_seen on w l)
+flushopt-grows on w l = record {
   coh = λ y. omega arith;
   read = omega arith;
   ready = omega arith;
-  asynchronous = λ y. set-grows w.vpa x (max (vpa_of w x) (ordered w x)) y (omega arith);
+  asynchronous = λ y. set-grows w.vpa l (max (vpa_of w l) (ordered on w l)) y (omega arith);
   committed = λ y. omega arith;
 }
 
@@ -128,8 +128,8 @@ row-grows d n r (Cas q x e f) (Some p) views inside left h =
     (miss-grows n.memory n.views x p views (All-head (λ (y : ℕ). y < length n.memory.initial) x [] inside) (is_reached n.memory.messages x (coh_of n.views x) (maxcoh n.views) p h.0))
 row-grows d n r Mfence None views inside left h = in-left n.views left _ h (mfence-grows n.memory n.views views)
 row-grows d n r Sfence None views inside left h = in-left n.views left _ h (sfence-grows n.memory n.views views)
-row-grows d n r (Flush x) None views inside left h = in-left n.views left _ h (flush-grows n.views x)
-row-grows d n r (Flushopt x) None views inside left h = in-left n.views left _ h (flushopt-grows n.views x)
+row-grows d n r (Flush x) None views inside left h = in-left n.views left _ h (flush-grows n.views (line_of n.memory x))
+row-grows d n r (Flushopt x) None views inside left h = in-left n.views left _ h (flushopt-grows n.memory.lines n.views (line_of n.memory x))
 row-grows d n r (If test first second) None views inside left h = in-left n.views left _ h (stays n.views)
 row-grows d n r (While test first) None views inside left h = in-left n.views left _ h (stays n.views)
 row-grows d n r act choice views inside left h = absurd h
@@ -159,33 +159,33 @@ pub other-point : (s : State) (t u k : ℕ) (left : Left) → 1 ≤ t → 1 ≤ 
 other-point s t u k left low from other = get_or-set_other s.points (t - 1) (u - 1) k 0 (λ q. other (let e : u ≡ t = omega (arith, low, from, q) in e))
 
 -- what was committed: by the step it becomes its maximum with the committed view that the thread is left with
-pub committed-moved : (s : State) (t k : ℕ) (left : Left) (x : ℕ) → 1 ≤ t → t ≤ length s.views → vpc_of (views_of s t) x ≤ vpc_of left.seen.views x
-    → committed (moved s t left k) x ≡ max (committed s x) (vpc_of left.seen.views x)
-committed-moved s t k left x low high le =
-    let of : Views → ℕ = λ (w : Views). vpc_of w x in
+pub committed-moved : (s : State) (t k : ℕ) (left : Left) (l : ℕ) → 1 ≤ t → t ≤ length s.views → vpc_of (views_of s t) l ≤ vpc_of left.seen.views l
+    → committed (moved s t left k) l ≡ max (committed s l) (vpc_of left.seen.views l)
+committed-moved s t k left l low high le =
+    let of : Views → ℕ = λ (w : Views). vpc_of w l in
     let size = length-map s.views of in
-    let mine : get_or (map of s.views) (t - 1) 0 ≡ vpc_of (views_of s t) x = get_or-map of s.views (t - 1) no_views 0 (omega (arith, low, high)) in
+    let mine : get_or (map of s.views) (t - 1) 0 ≡ vpc_of (views_of s t) l = get_or-map of s.views (t - 1) no_views 0 (omega (arith, low, high)) in
     ap greatest (map-set of s.views (t - 1) left.seen.views)
-    ∙ greatest-raised (map of s.views) (t - 1) (vpc_of left.seen.views x) (omega (arith, size, low, high)) (omega (arith, mine, le))
+    ∙ greatest-raised (map of s.views) (t - 1) (vpc_of left.seen.views l) (omega (arith, size, low, high)) (omega (arith, mine, le))
 
 -- what a thread committed was committed
-pub committed-above : (s : State) (t x : ℕ) → 1 ≤ t → t ≤ length s.views → vpc_of (views_of s t) x ≤ committed s x
-committed-above s t x low high =
-    let of : Views → ℕ = λ (w : Views). vpc_of w x in
-    let mine : get_or (map of s.views) (t - 1) 0 ≡ vpc_of (views_of s t) x = get_or-map of s.views (t - 1) no_views 0 (omega (arith, low, high)) in
+pub committed-above : (s : State) (t l : ℕ) → 1 ≤ t → t ≤ length s.views → vpc_of (views_of s t) l ≤ committed s l
+committed-above s t l low high =
+    let of : Views → ℕ = λ (w : Views). vpc_of w l in
+    let mine : get_or (map of s.views) (t - 1) 0 ≡ vpc_of (views_of s t) l = get_or-map of s.views (t - 1) no_views 0 (omega (arith, low, high)) in
     let above = greatest-above (map of s.views) (t - 1) in
     omega (arith, mine, above)
 
 -- and what was committed is a position of the memory
-pub committed-within : (p : ProgramTable) (s : State) (x : ℕ) → IsWellFormed p s → committed s x ≤ length s.memory.messages
-committed-within p s x h =
-    let of : Views → ℕ = λ (w : Views). vpc_of w x in
+pub committed-within : (p : ProgramTable) (s : State) (l : ℕ) → IsWellFormed p s → committed s l ≤ length s.memory.messages
+committed-within p s l h =
+    let of : Views → ℕ = λ (w : Views). vpc_of w l in
     let size = length-map s.views of in
     greatest-least (map of s.views) (length s.memory.messages) (λ i lt.
     let inside : i < length s.views = omega (arith, size, lt) in
     let is = All-get_or (AreViews s.memory) s.views i no_views inside h.views in
-    let mine : get_or (map of s.views) i 0 ≡ vpc_of (get_or s.views i no_views) x = get_or-map of s.views i no_views 0 inside in
-    let upto = vpc-within s.memory (get_or s.views i no_views) is x in
+    let mine : get_or (map of s.views) i 0 ≡ vpc_of (get_or s.views i no_views) l = get_or-map of s.views i no_views 0 inside in
+    let upto = vpc-within s.memory (get_or s.views i no_views) is l in
     let top = maxcoh-within s.memory (get_or s.views i no_views) is in
     omega (arith, mine, upto, top))
 
@@ -193,20 +193,20 @@ committed-within p s x h =
 
 module _ (p : ProgramTable) (s : State) (e : Event) (next : State) (built : IsProgram p) (h : IsWellFormed p s) (is : IsStep p s e next) where
   -- it moves no view of its thread back
-  pub step-grows : Grows (views_of s e.thread) is.left.seen.views
+  pub step-grows : Grows (views_of s e.thread) is.1.left.seen.views
   step-grows =
-      row-grows p.names.domain (seen_by s e.thread) s.scalars (act_of is.stmt) e.choice (thread-views p s e.thread h is.thread.0 is.thread.1) (stmt_locations p s built h e.thread (point_of s e.thread) is.stmt is.thread.0 is.thread.1 is.stands) is.left is.row
+      row-grows p.names.domain (seen_by s e.thread) s.scalars (act_of is.1.stmt) e.choice (thread-views p s e.thread h is.1.thread.0 is.1.thread.1) (stmt_locations p s built h e.thread (point_of s e.thread) is.1.stmt is.1.thread.0 is.1.thread.1 is.1.stands) is.1.left is.1.row
 
   -- its thread has the views that its act leaves
-  pub step-own : views_of next e.thread ≡ is.left.seen.views
+  pub step-own : views_of next e.thread ≡ is.1.left.seen.views
   step-own =
       let threads = h.threads in
-      let high = is.thread.1 in
-      ap (λ (q : State). views_of q e.thread) is.becomes ∙ own-views s e.thread is.target is.left is.thread.0 (omega (arith, threads, high))
+      let high = is.1.thread.1 in
+      ap (λ (q : State). views_of q e.thread) is.1.becomes ∙ own-views s e.thread is.0.target is.1.left is.1.thread.0 (omega (arith, threads, high))
 
   -- and each other thread its own
   pub step-other : (t : ℕ) → 1 ≤ t → (t ≡ e.thread → ⊥) → views_of next t ≡ views_of s t
-  step-other t from other = ap (λ (q : State). views_of q t) is.becomes ∙ other-views s e.thread t is.target is.left is.thread.0 from other
+  step-other t from other = ap (λ (q : State). views_of q t) is.1.becomes ∙ other-views s e.thread t is.0.target is.1.left is.1.thread.0 from other
 
   -- so it moves no view of any thread back
   pub step-forth : (t : ℕ) → 1 ≤ t → Grows (views_of s t) (views_of next t)
@@ -218,8 +218,8 @@ module _ (p : ProgramTable) (s : State) (e : Event) (next : State) (built : IsPr
   ]
 
   -- and takes back nothing that was committed
-  pub step-commits : (x : ℕ) → committed next x ≡ max (committed s x) (vpc_of is.left.seen.views x)
-  step-commits x =
+  pub step-commits : (l : ℕ) → committed next l ≡ max (committed s l) (vpc_of is.1.left.seen.views l)
+  step-commits l =
       let threads = h.threads in
-      let high = is.thread.1 in
-      ap (λ (q : State). committed q x) is.becomes ∙ committed-moved s e.thread is.target is.left x is.thread.0 (omega (arith, threads, high)) (step-grows.committed x)
+      let high = is.1.thread.1 in
+      ap (λ (q : State). committed q l) is.1.becomes ∙ committed-moved s e.thread is.0.target is.1.left l is.1.thread.0 (omega (arith, threads, high)) (step-grows.committed l)

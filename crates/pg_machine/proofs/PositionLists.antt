@@ -1,8 +1,10 @@
 -- Lists of positions: the greatest of some, the greater of two place by place, and a position that is set.
-use Rattle.std.proofs.Common.{◌≡◌, ℕ, zero, suc, ◌<◌, ◌≤◌, max, ◌⊎◌, List, [], ◌∷◌, length, get_or, set, inl, inr, refl, ap, arith}
+use Rattle.std.proofs.Common.{◌≡◌, ◌≢◌, ℕ, zero, suc, ◌<◌, ◌≤◌, ◌==◌, max, ◌⊎◌, Bool, true, false, cond, List, [], ◌∷◌, length, get_or, set, inl, inr, refl, sym, ap, ◌∙◌, arith}
 use Rattle.std.specs.List.{All}
+use Rattle.std.proofs.lemmas.Bool.{eq-eqb, ne_eqb}
 use Rattle.std.proofs.lemmas.List.Elements.{All-nil, All-cons, All-head, All-tail}
-use Rattle.pg_machine.specs.State.{greatest}
+use Rattle.pg_program.specs.NameTable.{line_count}
+use Rattle.pg_machine.specs.State.{greatest, greatest_on}
 use Rattle.pg_machine.specs.Moves.{greater}
 
 -- ---- the greatest of some positions
@@ -25,6 +27,52 @@ pub greatest-raised : (ps : List ℕ) (x p : ℕ) → x < length ps → get_or p
 greatest-raised [] x p lt le = absurd (omega arith)
 greatest-raised (q ∷ ps) zero p lt le = omega arith
 greatest-raised (q ∷ ps) (suc x) p lt le = let rest = greatest-raised ps x p (omega arith) le in omega (arith, rest)
+
+-- ---- lines
+
+-- the line of each location is one of the lines
+pub line-within : (ks : List ℕ) (x : ℕ) → x < length ks → get_or ks x 0 < line_count ks
+line-within [] x lt = absurd (omega arith)
+line-within (k ∷ ks) zero lt = omega arith
+line-within (k ∷ ks) (suc x) lt = let rest = line-within ks x (omega arith) in omega (arith, rest)
+
+-- the greatest of the positions on a line
+pub greatest_on-within : (ks ps : List ℕ) (l : ℕ) → greatest_on ks ps l ≤ greatest ps
+greatest_on-within [] ps l = omega arith
+greatest_on-within (k ∷ ks) [] l = omega arith
+greatest_on-within (k ∷ ks) (p ∷ ps) l = let rest = greatest_on-within ks ps l in by (k == l) rest
+  where
+    by : (b : Bool) → greatest_on ks ps l ≤ greatest ps → max (cond b p 0) (greatest_on ks ps l) ≤ max p (greatest ps)
+    by true rest = omega (arith, rest)
+    by false rest = omega (arith, rest)
+
+-- each position of the line is the greatest at most
+pub greatest_on-above : (ks ps : List ℕ) (l x : ℕ) → x < length ks → get_or ks x 0 ≡ l → get_or ps x 0 ≤ greatest_on ks ps l
+greatest_on-above [] ps l x lt on = absurd (omega arith)
+greatest_on-above (k ∷ ks) [] l x lt on = omega arith
+greatest_on-above (k ∷ ks) (p ∷ ps) l zero lt on =
+    let here : cond (k == l) p 0 ≡ p = ap (λ (b : Bool). cond b p 0) (eq-eqb k l on) in
+    omega (arith, here)
+greatest_on-above (k ∷ ks) (p ∷ ps) l (suc x) lt on = let rest = greatest_on-above ks ps l x (omega arith) on in omega (arith, rest)
+
+-- where a position of the line grows, the greatest one becomes its maximum with it
+pub greatest_on-raised : (ks ps : List ℕ) (l x p : ℕ) → x < length ks → x < length ps → get_or ks x 0 ≡ l → get_or ps x 0 ≤ p → greatest_on ks (set ps x p) l ≡ max (greatest_on ks ps l) p
+greatest_on-raised [] ps l x p lt size on le = absurd (omega arith)
+greatest_on-raised (k ∷ ks) [] l x p lt size on le = absurd (omega arith)
+greatest_on-raised (k ∷ ks) (q ∷ ps) l zero p lt size on le =
+    let new : cond (k == l) p 0 ≡ p = ap (λ (b : Bool). cond b p 0) (eq-eqb k l on) in
+    let old : cond (k == l) q 0 ≡ q = ap (λ (b : Bool). cond b q 0) (eq-eqb k l on) in
+    omega (arith, new, old, le)
+greatest_on-raised (k ∷ ks) (q ∷ ps) l (suc x) p lt size on le =
+    let rest = greatest_on-raised ks ps l x p (omega arith) (omega arith) on le in
+    omega (arith, rest)
+
+-- and where one of another line changes, it stays
+pub greatest_on-other : (ks ps : List ℕ) (l x p : ℕ) → get_or ks x 0 ≢ l → greatest_on ks (set ps x p) l ≡ greatest_on ks ps l
+greatest_on-other [] ps l x p off = refl
+greatest_on-other (k ∷ ks) [] l x p off = refl
+greatest_on-other (k ∷ ks) (q ∷ ps) l zero p off = ap (λ (b : Bool). max (cond b p 0) (greatest_on ks ps l)) (ne_eqb k l off) ∙ sym (ap (λ (b : Bool). max (cond b q 0) (greatest_on ks ps l)) (ne_eqb k l off))
+greatest_on-other (k ∷ ks) (q ∷ ps) l (suc x) p off = ap (λ (n : ℕ). max (cond (k == l) q 0) n) (greatest_on-other ks ps l x p off)
 
 -- ---- a position that is set
 

@@ -2,7 +2,7 @@
 use Rattle.std.proofs.Common.{◌≡◌, ℕ, zero, suc, ◌+◌, ◌-◌, ◌<◌, ◌≤◌, ◌==◌, max, nat_le, nat_lt, true, false, cond, not, ◌&&◌, List, [], ◌∷◌, length, get_or, set, drop, refl, inl, inr, sym, ap, ◌∙◌, arith}
 use Rattle.std.proofs.lemmas.Bool.{lt-leb, lt-ltb, le-leb, cases_lt, true≢false, and_left, and_right, and_from}
 use Rattle.pg_machine.specs.Memory.{is_to, is_at, last_upto, hides, is_clear}
-use Rattle.pg_machine.specs.State.{greatest}
+use Rattle.pg_machine.specs.State.{greatest, greatest_on}
 use Rattle.pg_machine.specs.Moves.{greater}
 use Rattle.pg_machine.proofs.EveryBelow.{every_below-all}
 
@@ -73,6 +73,32 @@ greatest-past [] zero le = refl
 greatest-past [] (suc i) le = refl
 greatest-past (p ∷ ps) zero le = absurd (omega arith)
 greatest-past (p ∷ ps) (suc i) le = greatest-past ps i (omega arith)
+
+-- the same of those on a line
+greatest_on-step : (ks ps : List ℕ) (l m i : ℕ) → i < length ps → length ps ≤ length ks
+    → max (max m (cond (get_or ks i 0 == l) (get_or ps i 0) 0)) (greatest_on (drop (suc i) ks) (drop (suc i) ps) l) ≡ max m (greatest_on (drop i ks) (drop i ps) l)
+greatest_on-step ks [] l m i lt le = absurd (omega arith)
+greatest_on-step [] (p ∷ ps) l m i lt le = absurd (omega arith)
+greatest_on-step (k ∷ ks) (p ∷ ps) l m zero lt le = omega arith
+greatest_on-step (k ∷ ks) (p ∷ ps) l m (suc i) lt le = greatest_on-step ks ps l m i (omega arith) (omega arith)
+
+pub greatest_on-next : (ks ps : List ℕ) (l m n i : ℕ) → i < length ps → length ps ≤ length ks → n ≡ max m (cond (get_or ks i 0 == l) (get_or ps i 0) 0)
+    → max n (greatest_on (drop (i + 1) ks) (drop (i + 1) ps) l) ≡ max m (greatest_on (drop i ks) (drop i ps) l)
+greatest_on-next ks ps l m n i lt le is =
+    let e : i + 1 ≡ suc i = omega arith in
+    ap (λ (k : ℕ). max k (greatest_on (drop (i + 1) ks) (drop (i + 1) ps) l)) is
+    ∙ (ap (λ (k : ℕ). max (max m (cond (get_or ks i 0 == l) (get_or ps i 0) 0)) (greatest_on (drop k ks) (drop k ps) l)) e ∙ greatest_on-step ks ps l m i lt le)
+
+greatest_on-none : (ks : List ℕ) (l : ℕ) → greatest_on ks [] l ≡ 0
+greatest_on-none [] l = refl
+greatest_on-none (k ∷ ks) l = refl
+
+pub greatest_on-past : (ks ps : List ℕ) (l i : ℕ) → length ps ≤ i → greatest_on (drop i ks) (drop i ps) l ≡ 0
+greatest_on-past ks [] l zero le = greatest_on-none ks l
+greatest_on-past ks [] l (suc i) le = greatest_on-none (drop (suc i) ks) l
+greatest_on-past ks (p ∷ ps) l zero le = absurd (omega arith)
+greatest_on-past [] (p ∷ ps) l (suc i) le = refl
+greatest_on-past (k ∷ ks) (p ∷ ps) l (suc i) le = greatest_on-past ks ps l i (omega arith)
 
 -- the first i positions raised
 abbrev pub raised : ℕ → List ℕ → List ℕ → List ℕ

@@ -12,8 +12,8 @@ use Rattle.pg_program.specs.declared.syntax.Expr.{Expr, out-Expr, fold_out-Expr}
 use Rattle.pg_program.specs.declared.syntax.Expr.TheOpen.{Expr-F, Value, Scalar, Add, Sub, Mul}
 use Rattle.pg_program.specs.declared.syntax.Expr.TheFolds.{map-Expr}
 use Rattle.pg_program.specs.declared.point.Branch.TheVariants.{Plain}
-use Rattle.pg_program.specs.NameTable.{initial}
-use Rattle.pg_program.specs.Graph.{target_of}
+use Rattle.pg_program.specs.NameTable.{Location, initial}
+use Rattle.pg_program.specs.Graph.{step_of}
 use Rattle.pg_program.specs.Expr.{value, value_step}
 use Rattle.pg_program.specs.Program.{ProgramTable, IsProgram, thread_of, stmt_at, steps_at}
 use Rattle.pg_program.specs.Straight.{store_of, store_in, number_in, without_bracket, stores_of, straight}
@@ -52,7 +52,7 @@ store_within : (p : ProgramTable) → IsProgram p → (t k : ℕ) (s : Stmt) (st
 store_within p h t k s st low high at is =
     let parts = is_stored s st is in
     let declared = All-head (λ (x : ℕ). x < length p.names.locations) st.0 [] (subst (All (λ (x : ℕ). x < length p.names.locations)) parts.locations (stmt_of p h t k s low high at).locations) in
-    let long = length-map p.names.locations (λ (e : List ℕ × ℕ). e.1) in (
+    let long = length-map p.names.locations (λ (l : Location). l.init) in (
       omega (arith, declared, long),
       All-head (λ (v : ℕ). v < p.names.domain) st.1 [] (subst (All (λ (v : ℕ). v < p.names.domain)) (stored-numbers s st parts) (numbers_of_stmt p h t k s low high at)),
     )
@@ -140,32 +140,32 @@ step_stores p stores s e next are within from is =
     let d = p.names.domain in
     let only = one_thread p.threads stores are in
     let one = only.0 in
-    let low = is.thread.0 in
-    let high = is.thread.1 in
+    let low = is.1.thread.0 in
+    let high = is.1.thread.1 in
     let first : e.thread ≡ 1 = omega (arith, one, low, high) in
     let k = point_of s 1 in
     let ss = get_or p.threads 0 [] in
-    let stands : slice_get ss (k - 1) ≡ Some is.stmt =
-    sym (ap (λ (l : List Stmt). slice_get l (k - 1)) (straight-statements ss stores only.1)) ∙ subst (λ (t : ℕ). stmt_at p t (point_of s t) ≡ Some is.stmt) first is.stands in
-    let found = store_at ss stores (k - 1) is.stmt only.1 stands in
+    let stands : slice_get ss (k - 1) ≡ Some is.1.stmt =
+    sym (ap (λ (l : List Stmt). slice_get l (k - 1)) (straight-statements ss stores only.1)) ∙ subst (λ (t : ℕ). stmt_at p t (point_of s t) ≡ Some is.1.stmt) first is.1.stands in
+    let found = store_at ss stores (k - 1) is.1.stmt only.1 stands in
     let inside = found.0 in
     let st = get_or stores (k - 1) (0, 0) in
-    let act = store_act (bracket_of is.stmt) (act_of is.stmt) st found.1 in
-    let bare = (is_stored is.stmt st found.1).aux in
+    let act = store_act (bracket_of is.1.stmt) (act_of is.1.stmt) st found.1 in
+    let bare = (is_stored is.1.stmt st found.1).aux in
     let below = within (k - 1) (0, 0) inside in
     let n = seen_by s 1 in
-    let row = subst (λ (t : ℕ). Row d (seen_by s t) s.scalars (act_of is.stmt) e.choice is.left) first is.row in
-    let left : is.left ≡ leaves (stored n st.0 st.1) s.scalars =
-    store_row d n s.scalars st.0 st.1 act.number e.choice is.left (number_value s.scalars d act.number st.1 act.gives below)
-    (subst (λ (a : Act-F Act Stmt). Row d n s.scalars a e.choice is.left) act.is row) in
-    let plain = subst (λ (a : Act-F Act Stmt). target_of (branch_taken d s.scalars a) (steps_at p e.thread (point_of s e.thread)) ≡ Some is.target) act.is is.leads in
-    let leads : target_of Plain (steps_at p 1 k) ≡ Some is.target = subst (λ (t : ℕ). target_of Plain (steps_at p t (point_of s t)) ≡ Some is.target) first plain in
-    let goes : k + 1 ≡ is.target = let e = sym (ap (target_of Plain) (straight-steps_at p stores 1 k only.1 from (omega arith))) ∙ leads in cc in
+    let row = subst (λ (t : ℕ). Row d (seen_by s t) s.scalars (act_of is.1.stmt) e.choice is.1.left) first is.1.row in
+    let left : is.1.left ≡ leaves (stored n st.0 st.1) s.scalars =
+    store_row d n s.scalars st.0 st.1 act.number e.choice is.1.left (number_value s.scalars d act.number st.1 act.gives below)
+    (subst (λ (a : Act-F Act Stmt). Row d n s.scalars a e.choice is.1.left) act.is row) in
+    let plain = subst (λ (a : Act-F Act Stmt). step_of (branch_taken d s.scalars a) (steps_at p e.thread (point_of s e.thread)) ≡ Some is.0) act.is is.1.taken in
+    let leads : step_of Plain (steps_at p 1 k) ≡ Some is.0 = subst (λ (t : ℕ). step_of Plain (steps_at p t (point_of s t)) ≡ Some is.0) first plain in
+    let goes : k + 1 ≡ is.0.target = let e = sym (ap (step_of Plain) (straight-steps_at p stores 1 k only.1 from (omega arith))) ∙ leads in cc in
     record {
       inside = inside;
-      becomes = is.becomes
-          ∙ (ap (λ (t : ℕ). moved s t (record is.left { scalars = bracket_done d (bracket_of is.stmt) is.left.scalars }) is.target) first
-          ∙ (ap (λ (b : List AuxAssign). moved s 1 (record is.left { scalars = bracket_done d b is.left.scalars }) is.target) bare
-          ∙ (ap (λ (l : Left). moved s 1 l is.target) left
+      becomes = is.1.becomes
+          ∙ (ap (λ (t : ℕ). moved s t (record is.1.left { scalars = bracket_done d (bracket_of is.1.stmt) is.1.left.scalars }) is.0.target) first
+          ∙ (ap (λ (b : List AuxAssign). moved s 1 (record is.1.left { scalars = bracket_done d b is.1.left.scalars }) is.0.target) bare
+          ∙ (ap (λ (l : Left). moved s 1 l is.0.target) left
           ∙ ap (λ (m : ℕ). moved s 1 (leaves (stored n st.0 st.1) s.scalars) m) (sym goes))));
     }

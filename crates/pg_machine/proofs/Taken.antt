@@ -5,7 +5,7 @@ use Rattle.std.proofs.lemmas.List.{get_or_default}
 use Rattle.pg_program.specs.declared.syntax.Stmt.{Stmt}
 use Rattle.pg_program.specs.declared.point.Branch.{Branch}
 use Rattle.pg_program.specs.declared.point.Step.{Step}
-use Rattle.pg_program.specs.Graph.{target_of}
+use Rattle.pg_program.specs.Graph.{step_of}
 use Rattle.pg_program.specs.NameTable.{NameTable}
 use Rattle.pg_program.specs.Program.{ProgramTable, stmt_at, steps_at}
 use Rattle.pg_machine.specs.declared.event.Event.{Event}
@@ -38,10 +38,10 @@ same_seen : (m : Memory) (s : State) (w : Views) (t : ℕ) → m ≡ s.memory �
 same_seen m s w t e f =
     ap (λ (x : Memory). let n : Seen = record { memory = x; views = w } in n) e ∙ ap (λ (x : Views). let n : Seen = record { memory = s.memory; views = x } in n) f
 
-pub taken : (p : ProgramTable) (s : State) (t k : ℕ) (stmt : Stmt) (d : ℕ) (m : HeldMemory) (w : Views) (r : List ℕ) (choice : Option ℕ) (b : Branch) (q : List ℕ) (steps : List Step) (target : ℕ) (after : Left)
-    → Parts p s t k stmt d m w r → Does d (seen_in m w) r stmt choice after → q ≡ s.scalars → b ≡ branch_taken d q (act_of stmt) → steps ≡ steps_at p t k → target_of b steps ≡ Some target
-    → IsStep p s (record { thread = t; choice = choice }) (moved s t after target)
-taken p s t k stmt d m w r choice b q steps target after h does qs bs ss leads =
+pub taken : (p : ProgramTable) (s : State) (t k : ℕ) (stmt : Stmt) (d : ℕ) (m : HeldMemory) (w : Views) (r : List ℕ) (choice : Option ℕ) (b : Branch) (q : List ℕ) (steps : List Step) (step : Step) (after : Left)
+    → Parts p s t k stmt d m w r → Does d (seen_in m w) r stmt choice after → q ≡ s.scalars → b ≡ branch_taken d q (act_of stmt) → steps ≡ steps_at p t k → step_of b steps ≡ Some step
+    → IsStep p s (record { thread = t; choice = choice }) (moved s t after step.target)
+taken p s t k stmt d m w r choice b q steps step after h does qs bs ss leads =
     let e : Event = record { thread = t; choice = choice } in
     let seen = same_seen m.memory s w t h.memory h.views in
     let a = subst (λ (n : ℕ). Does n (seen_in m w) r stmt choice after) h.domain does in
@@ -49,17 +49,18 @@ taken p s t k stmt d m w r choice b q steps target after h does qs bs ss leads =
     let does' = subst (λ (l : List ℕ). Does p.names.domain (seen_by s t) l stmt choice after) h.scalars c in
     let branch : b ≡ branch_taken p.names.domain s.scalars (act_of stmt) =
     bs ∙ (ap (λ (n : ℕ). branch_taken n q (act_of stmt)) h.domain ∙ ap (λ (l : List ℕ). branch_taken p.names.domain l (act_of stmt)) qs) in
-    let at : steps ≡ steps_at p t (point_of s t) = ss ∙ ap (steps_at p t) h.point in
-    record {
-      thread = (h.low, h.high);
-      stmt = stmt;
-      stands = ap (stmt_at p t) (sym h.point) ∙ h.stands;
-      left = does'.left;
-      row = does'.row;
-      target = target;
-      leads = sym (ap (λ (x : Branch). target_of x steps) branch ∙ ap (target_of (branch_taken p.names.domain s.scalars (act_of stmt))) at) ∙ leads;
-      becomes = ap (λ (l : Left). moved s t l target) does'.becomes;
-    }
+    let at : steps ≡ steps_at p t (point_of s t) = ss ∙ ap (steps_at p t) h.point in (
+      step,
+      record {
+        thread = (h.low, h.high);
+        stmt = stmt;
+        stands = ap (stmt_at p t) (sym h.point) ∙ h.stands;
+        left = does'.left;
+        row = does'.row;
+        taken = sym (ap (λ (x : Branch). step_of x steps) branch ∙ ap (step_of (branch_taken p.names.domain s.scalars (act_of stmt))) at) ∙ leads;
+        becomes = ap (λ (l : Left). moved s t l step.target) does'.becomes;
+      },
+    )
 
 pub refused : (p : ProgramTable) (s : State) (t k : ℕ) (stmt : Stmt) (d : ℕ) (m : HeldMemory) (w : Views) (r : List ℕ) (choice : Option ℕ) (fault : StepFault)
     → Parts p s t k stmt d m w r → RowFault d (seen_in m w) r (act_of stmt) choice fault → ActFault p s (record { thread = t; choice = choice }) fault

@@ -8,13 +8,13 @@ use Rattle.pg_machine.proofs.PositionLists.{greatest-least, at-bounded}
 
 -- the coherence views are positions of the memory, and so is the greatest one
 pub maxcoh-within : (m : Memory) (w : Views) → AreViews m w → maxcoh w ≤ length m.messages
-maxcoh-within m w h = let size = h.size.0 in greatest-least w.coh (length m.messages) (λ i lt. (h.coherent i (omega (arith, size, lt))).0)
+maxcoh-within m w h = let size = h.size.coh in greatest-least w.coh (length m.messages) (λ i lt. (h.coherent i (omega (arith, size, lt))).0)
 
 -- so they are for every location, since one that is missing reads 0
 pub coh-at : (m : Memory) (w : Views) → AreViews m w → (x : ℕ) → is_at m.messages x (coh_of w x) ≡ true
 coh-at m w h x = elim (cases_lt x (length m.initial)) [
   | inl inside ↦ (h.coherent x inside).1
-  | inr past ↦ let size = h.size.0 in ap (is_at m.messages x) (get_or_past w.coh x 0 (omega (arith, size, past)))
+  | inr past ↦ let size = h.size.coh in ap (is_at m.messages x) (get_or_past w.coh x 0 (omega (arith, size, past)))
 ]
 
 pub vpa-within : (m : Memory) (w : Views) → AreViews m w → (x : ℕ) → vpa_of w x ≤ maxcoh w

@@ -6,9 +6,10 @@ use Rattle.std.proofs.lemmas.Bool.{cases_eq}
 use Rattle.std.proofs.lemmas.List.{length-set, length_push, length-replicate, get_or-replicate, get_or-set_same, get_or-set_other}
 use Rattle.std.proofs.lemmas.List.Elements.{All-weaker, All-set, All-replicate}
 use Rattle.pg_machine.specs.Memory.{Memory, is_at, message_appended}
+use Rattle.pg_program.specs.NameTable.{line_count}
 use Rattle.pg_machine.specs.State.{Views, greatest, coh_of, vpa_of, vpc_of, maxcoh, ordered, AreViews, fresh_views}
 use Rattle.pg_machine.specs.Moves.{greater, store_seen, load_seen, mfence_seen, sfence_seen, flush_seen, flushopt_seen, swap_seen}
-use Rattle.pg_machine.proofs.PositionLists.{greatest-above, greatest-raised, at-bounded, greater-bounded, greater-length}
+use Rattle.pg_machine.proofs.PositionLists.{greatest_on-within, greatest-raised, at-bounded, greater-bounded, greater-length}
 use Rattle.pg_machine.proofs.Appended.{same_number, is_to-front, is_to-new}
 use Rattle.pg_machine.proofs.ViewLaws.{maxcoh-within}
 
@@ -26,21 +27,21 @@ raised-within m ps i n h le = All-set (λ (p : ℕ). p ≤ m) ps i (max (get_or 
 
 -- ---- views
 
-pub fresh_are_views : (m : Memory) (n : ℕ) → length m.initial ≡ n → AreViews m (fresh_views n)
-fresh_are_views m n size = record {
-  size = (length-replicate n 0 ∙ sym size, (length-replicate n 0 ∙ sym size, length-replicate n 0 ∙ sym size));
+pub fresh_are_views : (m : Memory) (n k : ℕ) → length m.initial ≡ n → line_count m.lines ≡ k → AreViews m (fresh_views n k)
+fresh_are_views m n k size on = record {
+  size = record { coh = length-replicate n 0 ∙ sym size; vpa = length-replicate k 0 ∙ sym on; vpc = length-replicate k 0 ∙ sym on };
   coherent = λ x lt.
       let at : get_or (replicate n 0) x 0 ≡ 0 = get_or-replicate n x 0 0 (omega (arith, size, lt)) in
       (omega (arith, at), ap (λ (p : ℕ). is_at m.messages x p) at);
   read = omega arith;
   ready = omega arith;
-  asynchronous = All-replicate (λ (p : ℕ). p ≤ maxcoh (fresh_views n)) n 0 (omega arith);
-  committed = All-replicate (λ (p : ℕ). p ≤ maxcoh (fresh_views n)) n 0 (omega arith);
+  asynchronous = All-replicate (λ (p : ℕ). p ≤ maxcoh (fresh_views n k)) k 0 (omega arith);
+  committed = All-replicate (λ (p : ℕ). p ≤ maxcoh (fresh_views n k)) k 0 (omega arith);
 }
 
 pub mfence_views : (m : Memory) (w : Views) → AreViews m w → AreViews m (mfence_seen w)
 mfence_views m w h = record {
-  size = (h.size.0, (h.size.1.0, greater-length w.vpc w.vpa ∙ h.size.1.1));
+  size = record { coh = h.size.coh; vpa = h.size.vpa; vpc = greater-length w.vpc w.vpa ∙ h.size.vpc };
   coherent = h.coherent;
   read = omega arith;
   ready = omega arith;
@@ -50,7 +51,7 @@ mfence_views m w h = record {
 
 pub sfence_views : (m : Memory) (w : Views) → AreViews m w → AreViews m (sfence_seen w)
 sfence_views m w h = record {
-  size = (h.size.0, (h.size.1.0, greater-length w.vpc w.vpa ∙ h.size.1.1));
+  size = record { coh = h.size.coh; vpa = h.size.vpa; vpc = greater-length w.vpc w.vpa ∙ h.size.vpc };
   coherent = h.coherent;
   read = let a = h.read in let b = h.ready in omega (arith, a, b);
   ready = omega arith;
@@ -58,23 +59,23 @@ sfence_views m w h = record {
   committed = greater-bounded w.vpc w.vpa (maxcoh w) h.committed h.asynchronous;
 }
 
-pub flush_views : (m : Memory) (w : Views) (x : ℕ) → AreViews m w → AreViews m (flush_seen w x)
-flush_views m w x h = record {
-  size = (h.size.0, (length-set w.vpa x (max (vpa_of w x) (maxcoh w)) ∙ h.size.1.0, length-set w.vpc x (max (vpc_of w x) (maxcoh w)) ∙ h.size.1.1));
+pub flush_views : (m : Memory) (w : Views) (l : ℕ) → AreViews m w → AreViews m (flush_seen w l)
+flush_views m w l h = record {
+  size = record { coh = h.size.coh; vpa = length-set w.vpa l (max (vpa_of w l) (maxcoh w)) ∙ h.size.vpa; vpc = length-set w.vpc l (max (vpc_of w l) (maxcoh w)) ∙ h.size.vpc };
   coherent = h.coherent;
   read = h.read;
   ready = h.ready;
-  asynchronous = raised-within (maxcoh w) w.vpa x (maxcoh w) h.asynchronous (omega arith);
-  committed = raised-within (maxcoh w) w.vpc x (maxcoh w) h.committed (omega arith);
+  asynchronous = raised-within (maxcoh w) w.vpa l (maxcoh w) h.asynchronous (omega arith);
+  committed = raised-within (maxcoh w) w.vpc l (maxcoh w) h.committed (omega arith);
 }
 
-pub flushopt_views : (m : Memory) (w : Views) (x : ℕ) → AreViews m w → AreViews m (flushopt_seen w x)
-flushopt_views m w x h = record {
-  size = (h.size.0, (length-set w.vpa x (max (vpa_of w x) (ordered w x)) ∙ h.size.1.0, h.size.1.1));
+pub flushopt_views : (m : Memory) (w : Views) (on : List ℕ) (l : ℕ) → AreViews m w → AreViews m (flushopt_seen on w l)
+flushopt_views m w on l h = record {
+  size = record { coh = h.size.coh; vpa = length-set w.vpa l (max (vpa_of w l) (ordered on w l)) ∙ h.size.vpa; vpc = h.size.vpc };
   coherent = h.coherent;
   read = h.read;
   ready = h.ready;
-  asynchronous = raised-within (maxcoh w) w.vpa x (ordered w x) h.asynchronous (max-le (greatest-above w.coh x) h.ready);
+  asynchronous = raised-within (maxcoh w) w.vpa l (ordered on w l) h.asynchronous (max-le (greatest_on-within on w.coh l) h.ready);
   committed = h.committed;
 }
 
@@ -106,12 +107,12 @@ cond-both false a c p h = omega arith
 
 pub load_views : (m : Memory) (w : Views) (x p : ℕ) → AreViews m w → x < length m.initial → is_at m.messages x p ≡ true → p ≤ length m.messages → coh_of w x ≤ p → AreViews m (load_seen w x p)
 load_views m w x p h inside at le from =
-    let size = h.size.0 in
+    let size = h.size.coh in
     let top = greatest-raised w.coh x p (omega (arith, size, inside)) from in
     let grows : maxcoh w ≤ greatest (set w.coh x p) = omega (arith, top) in
     let ready = h.ready in
     record {
-      size = (length-set w.coh x p ∙ size, h.size.1);
+      size = record { coh = length-set w.coh x p ∙ size; vpa = h.size.vpa; vpc = h.size.vpc };
       coherent = coherent-moved m w.coh x p h.coherent size inside le at;
       read = cond-both (p == coh_of w x) w.vrn w.vpr p h.read;
       ready = cond-within (p == coh_of w x) w.vpr p (greatest (set w.coh x p)) (omega (arith, ready, grows)) (omega (arith, top));
@@ -122,7 +123,7 @@ load_views m w x p h inside at le from =
 -- in a memory with a message more each thread's views stay views
 pub views_stay : (m : Memory) (st : ℕ × ℕ) (w : Views) → AreViews m w → AreViews (message_appended m st) w
 views_stay m st w h = record {
-  size = h.size;
+  size = record { coh = h.size.coh; vpa = h.size.vpa; vpc = h.size.vpc };
   coherent = λ x lt.
       let c = h.coherent x lt in
       let long = length_push m.messages st in
@@ -139,7 +140,7 @@ store_views m x v w h inside =
     let n = length m.messages in
     let next = message_appended m (x, v) in
     let before = views_stay m (x, v) w h in
-    let size = h.size.0 in
+    let size = h.size.coh in
     let long = length_push m.messages (x, v) in
     let new : suc n ≡ n + 1 = omega arith in
     let at : is_at next.messages x (n + 1) ≡ true = ap (is_at next.messages x) (sym new) ∙ (is_to-new m.messages (x, v) x ∙ same_number x) in
@@ -148,7 +149,7 @@ store_views m x v w h inside =
     let grows : maxcoh w ≤ greatest (set w.coh x (n + 1)) = omega (arith, top) in
     let ready = h.ready in
     record {
-      size = (length-set w.coh x (n + 1) ∙ size, h.size.1);
+      size = record { coh = length-set w.coh x (n + 1) ∙ size; vpa = h.size.vpa; vpc = h.size.vpc };
       coherent = coherent-moved next w.coh x (n + 1) before.coherent size inside (omega (arith, long)) at;
       read = h.read;
       ready = omega (arith, ready, grows);
@@ -160,7 +161,7 @@ store_views m x v w h inside =
 pub top_stored : (m : Memory) (x : ℕ) (w : Views) → AreViews m w → x < length m.initial → maxcoh (store_seen w x (length m.messages + 1)) ≡ length m.messages + 1
 top_stored m x w h inside =
     let n = length m.messages in
-    let size = h.size.0 in
+    let size = h.size.coh in
     let within = maxcoh-within m w h in
     let low = (h.coherent x inside).0 in
     let top = greatest-raised w.coh x (n + 1) (omega (arith, size, inside)) (omega (arith, low)) in

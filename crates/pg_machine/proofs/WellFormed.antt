@@ -13,18 +13,18 @@ use Rattle.pg_program.specs.declared.syntax.Act.{Act}
 use Rattle.pg_program.specs.declared.syntax.Act.TheOpen.{Act-F, Assign, Store, Load, Cas, Mfence, Sfence, Flush, Flushopt, If, While}
 use Rattle.pg_program.specs.declared.point.Branch.{Branch}
 use Rattle.pg_program.specs.declared.point.Step.{Step}
-use Rattle.pg_program.specs.NameTable.{NameTable, initial}
+use Rattle.pg_program.specs.NameTable.{NameTable, Location, initial, lines, line_count}
 use Rattle.pg_program.specs.Words.{locations_in}
 use Rattle.pg_program.specs.Expr.{value, value_step}
-use Rattle.pg_program.specs.Graph.{target_of, is_branch}
+use Rattle.pg_program.specs.Graph.{step_of, is_branch}
 use Rattle.pg_program.specs.Laws.{LeadsWithin}
 use Rattle.pg_program.specs.Program.{ProgramTable, IsProgram, points, steps_at}
 use Rattle.pg_program.proofs.ProgramLemmas.{has_values, initial_inside}
 use Rattle.pg_program.proofs.GraphLaws.{steps_lead_within}
 use Rattle.pg_machine.specs.declared.event.Event.{Event}
 use Rattle.pg_machine.specs.declared.fault.StepFault.{StepFault}
-use Rattle.pg_machine.specs.Memory.{Memory, value_at, message_appended}
-use Rattle.pg_machine.specs.State.{Views, State, coh_of, point_of, AreViews, IsMemory, IsWellFormed, fresh, fresh_views}
+use Rattle.pg_machine.specs.Memory.{Memory, line_of, value_at, message_appended}
+use Rattle.pg_machine.specs.State.{Views, State, coh_of, point_of, AreSized, AreViews, IsMemory, IsWellFormed, fresh, fresh_views}
 use Rattle.pg_machine.specs.Moves.{Seen, can_read, mfence_seen, sfence_seen, flush_seen, flushopt_seen, load_seen, store_seen, swap_seen, fenced, SwapIsStoreThenFence}
 use Rattle.pg_machine.specs.Step.{Left, leaves, Row, act_of, bracket_of, bracket_done, assigned, branch_taken, seen_by, moved, IsStep}
 use Rattle.pg_machine.proofs.Scan.{is_at-within}
@@ -49,15 +49,17 @@ fresh_is_well_formed p h =
     let names = p.names in
     let memory = (fresh p).memory in
     let n = length names.locations in
-    let size : length (initial names) ≡ n = length-map names.locations (λ (e : List ℕ × ℕ). e.1) in
+    let on = line_count (lines names) in
+    let size : length (initial names) ≡ n = length-map names.locations (λ (l : Location). l.init) in
     record {
       memory = record {
-        initial = refl;
+        initial = size;
+        lines = refl;
         values = initial_inside p h;
         messages = All-nil (λ (s : ℕ × ℕ). (s.0 < length (initial names)) × (s.1 < names.domain));
       };
-      threads = length-map p.threads (λ (t : List Stmt). fresh_views n);
-      views = All-constant (AreViews memory) (fresh_views n) p.threads (fresh_are_views memory n size);
+      threads = length-map p.threads (λ (t : List Stmt). fresh_views n on);
+      views = All-constant (AreViews memory) (fresh_views n on) p.threads (fresh_are_views memory n on size refl);
       scalars = (length-map names.scalars (λ e. 0), All-constant (λ (v : ℕ). v < names.domain) 0 names.scalars (has_values p h));
       pointed = length-map p.threads (λ (t : List Stmt). 1);
       points = λ t low high.
@@ -120,6 +122,7 @@ moves-set names n r w q v h own low = record {
 longer : (names : NameTable) (m : Memory) (x v : ℕ) → IsMemory names m → x < length m.initial → v < names.domain → IsMemory names (message_appended m (x, v))
 longer names m x v h inside low = record {
   initial = h.initial;
+  lines = h.lines;
   values = h.values;
   messages = All-push (λ (s : ℕ × ℕ). (s.0 < length m.initial) × (s.1 < names.domain)) m.messages (x, v) h.messages (inside, low);
 }
@@ -179,8 +182,8 @@ row_keeps names n r (Cas q x e f) (Some p) left h locs row =
     subst (Keeps names n r) (sym row.2) (moves-set names n r (mfence_seen (load_seen (mfence_seen n.views) x p)) q (value_at n.memory x p) h (miss_views n x p h.own inside row.0) (read-inside names n r x p h))
 row_keeps names n r Mfence None left h locs row = subst (Keeps names n r) (sym row) (moves names n r (mfence_seen n.views) h (mfence_views n.memory n.views h.own))
 row_keeps names n r Sfence None left h locs row = subst (Keeps names n r) (sym row) (moves names n r (sfence_seen n.views) h (sfence_views n.memory n.views h.own))
-row_keeps names n r (Flush x) None left h locs row = subst (Keeps names n r) (sym row) (moves names n r (flush_seen n.views x) h (flush_views n.memory n.views x h.own))
-row_keeps names n r (Flushopt x) None left h locs row = subst (Keeps names n r) (sym row) (moves names n r (flushopt_seen n.views x) h (flushopt_views n.memory n.views x h.own))
+row_keeps names n r (Flush x) None left h locs row = subst (Keeps names n r) (sym row) (moves names n r (flush_seen n.views (line_of n.memory x)) h (flush_views n.memory n.views (line_of n.memory x) h.own))
+row_keeps names n r (Flushopt x) None left h locs row = subst (Keeps names n r) (sym row) (moves names n r (flushopt_seen n.memory.lines n.views (line_of n.memory x)) h (flushopt_views n.memory n.views n.memory.lines (line_of n.memory x) h.own))
 row_keeps names n r (If t y z) None left h locs row = subst (Keeps names n r) (sym row) (moves names n r n.views h h.own)
 row_keeps names n r (While t y) None left h locs row = subst (Keeps names n r) (sym row) (moves names n r n.views h h.own)
 row_keeps names n r (Load q x) None left h locs row = absurd row
@@ -195,56 +198,57 @@ row_keeps names n r (While t y) (Some p) left h locs row = absurd row
 
 -- ---- a step
 
--- where a step leads is one of the thread's points
-target_within : (b : Branch) (t k n : ℕ) (ss : List Step) (m : ℕ) → All (LeadsWithin t k n) ss → target_of b ss ≡ Some m → (1 ≤ m) × (m ≤ n)
-target_within b t k n [] m h e = cc
-target_within b t k n (s ∷ ss) m h e = by (is_branch b s.branch) (target_within b t k n ss m (All-tail (LeadsWithin t k n) s ss h)) e
+-- the step of a branch leads to one of the thread's points
+pub step_within : (b : Branch) (t k n : ℕ) (ss : List Step) (m : Step) → All (LeadsWithin t k n) ss → step_of b ss ≡ Some m → LeadsWithin t k n m
+step_within b t k n [] m h e = cc
+step_within b t k n (s ∷ ss) m h e = by (is_branch b s.branch) (step_within b t k n ss m (All-tail (LeadsWithin t k n) s ss h)) e
   where
-    by : (b' : Bool) → (target_of b ss ≡ Some m → (1 ≤ m) × (m ≤ n)) → cond b' (Some s.target) (target_of b ss) ≡ Some m → (1 ≤ m) × (m ≤ n)
+    by : (b' : Bool) → (step_of b ss ≡ Some m → LeadsWithin t k n m) → cond b' (Some s) (step_of b ss) ≡ Some m → LeadsWithin t k n m
     by true rest q =
-        let first = All-head (LeadsWithin t k n) s ss h in
-        let same : s.target ≡ m = cc in
-        let low = first.from in
-        let high = first.to in
-        (omega (arith, same, low), omega (arith, same, high))
+        let same : s ≡ m = cc in
+        subst (LeadsWithin t k n) same (All-head (LeadsWithin t k n) s ss h)
     by false rest q = rest q
 
 pub step_keeps : (p : ProgramTable) (s : State) (e : Event) (next : State) → IsProgram p → IsWellFormed p s → IsStep p s e next → IsWellFormed p next
 step_keeps p s e next built h is =
     let t = e.thread in
-    let low = is.thread.0 in
-    let high = is.thread.1 in
+    let low = is.1.thread.0 in
+    let high = is.1.thread.1 in
     let k = point_of s t in
     let threads = h.threads in
     let pointed = h.pointed in
     let d = p.names.domain in
     let mine = All-get_or (λ (w : Views). AreViews s.memory w) s.views (t - 1) (record { coh = []; vrn = 0; vpr = 0; vpa = []; vpc = [] }) (omega (arith, threads, low, high)) h.views in
     let before : Before p.names (seen_by s t) s.scalars = record { some = has_values p built; memory = h.memory; own = mine; values = h.scalars.1 } in
-    let keeps = row_keeps p.names (seen_by s t) s.scalars (act_of is.stmt) e.choice is.left before (stmt_locations p s built h t k is.stmt low high is.stands) is.row in
-    let left = is.left in
-    let at = target_within (branch_taken d s.scalars (act_of is.stmt)) t k (points p t) (steps_at p t k) is.target (steps_lead_within p t k (h.points t low high).0) is.leads in
-    let after : Left = record left { scalars = bracket_done d (bracket_of is.stmt) left.scalars } in
-    let new = moved s t after is.target in
-    let moves_to : point_of new t ≡ is.target = get_or-set_same s.points (t - 1) is.target 0 (omega (arith, pointed, low, high)) in
-    subst (IsWellFormed p) (sym is.becomes)
+    let keeps = row_keeps p.names (seen_by s t) s.scalars (act_of is.1.stmt) e.choice is.1.left before (stmt_locations p s built h t k is.1.stmt low high is.1.stands) is.1.row in
+    let left = is.1.left in
+    let at = step_within (branch_taken d s.scalars (act_of is.1.stmt)) t k (points p t) (steps_at p t k) is.0 (steps_lead_within p t k (h.points t low high).0) is.1.taken in
+    let after : Left = record left { scalars = bracket_done d (bracket_of is.1.stmt) left.scalars } in
+    let new = moved s t after is.0.target in
+    let moves_to : point_of new t ≡ is.0.target = get_or-set_same s.points (t - 1) is.0.target 0 (omega (arith, pointed, low, high)) in
+    subst (IsWellFormed p) (sym is.1.becomes)
     (record {
       memory = keeps.memory;
       threads = length-set s.views (t - 1) left.seen.views ∙ threads;
       views = All-set (AreViews left.seen.memory) s.views (t - 1) left.seen.views keeps.own (All-weaker (AreViews s.memory) (AreViews left.seen.memory) keeps.others s.views h.views);
       scalars = (
-        assigned-size d left.scalars (bracket_of is.stmt) left.scalars ∙ (keeps.size ∙ h.scalars.0),
-        assigned-inside d left.scalars (bracket_of is.stmt) left.scalars (has_values p built) keeps.values keeps.values,
+        assigned-size d left.scalars (bracket_of is.1.stmt) left.scalars ∙ (keeps.size ∙ h.scalars.0),
+        assigned-inside d left.scalars (bracket_of is.1.stmt) left.scalars (has_values p built) keeps.values keeps.values,
       );
-      pointed = length-set s.points (t - 1) is.target ∙ pointed;
+      pointed = length-set s.points (t - 1) is.0.target ∙ pointed;
       points = λ u from to. elim (cases_eq u t) [
         | inl e ↦ subst (λ (k : ℕ). (1 ≤ point_of new k) × (point_of new k ≤ points p k)) (sym e)
-            (let a = at.0 in let b = at.1 in (omega (arith, moves_to, a), omega (arith, moves_to, b)))
+            (let a = at.from in let b = at.to in (omega (arith, moves_to, a), omega (arith, moves_to, b)))
         | inr ne ↦
             let apart : (u - 1 ≡ t - 1) → ⊥ = λ q. ne (let k : u ≡ t = omega (arith, from, low, q) in k) in
-            let stays : point_of new u ≡ point_of s u = get_or-set_other s.points (t - 1) (u - 1) is.target 0 apart in
+            let stays : point_of new u ≡ point_of s u = get_or-set_other s.points (t - 1) (u - 1) is.0.target 0 apart in
             subst (λ (k : ℕ). (1 ≤ k) × (k ≤ points p u)) (sym stays) (h.points u from to)
       ];
     })
+
+-- so it leaves each thread views of each location and line
+pub step_sizes : (p : ProgramTable) (s : State) (e : Event) (next : State) → IsProgram p → IsWellFormed p s → IsStep p s e next → All (AreSized next.memory) next.views
+step_sizes p s e next built h is = All-weaker (AreViews next.memory) (AreSized next.memory) (λ w v. v.size) next.views (step_keeps p s e next built h is).views
 
 pub answered_kept : (p : ProgramTable) (s : State) (e : Event) (new : State) (r : Result (Unit {0}) StepFault) → IsProgram p → IsWellFormed p s → OnOk r (IsStep p s e new) → OnErr r (new ≡ s) → IsWellFormed p new
 answered_kept p s e new (Ok u) built h is same = step_keeps p s e new built h is

@@ -2,7 +2,7 @@
 
 ghost use Rattle.pg_machine.specs.State.{FreshIsWellFormed};
 ghost use Rattle.pg_machine.specs.Step.{HasOneStep, StepKeepsWellFormed};
-ghost use Rattle.pg_machine.specs.Moves.{SwapIsStoreThenFence, MissIsLoadBetweenFences};
+ghost use Rattle.pg_machine.specs.Moves.{SwapIsStoreThenFence};
 ghost use Rattle.pg_machine.specs.Fault.{HasOneFault, FaultHasNoStep};
 
 /// For a program, a state and an event there is at most one next state.
@@ -23,11 +23,6 @@ pub fn a_step_keeps_a_state_well_formed()
 /// What a successful cas leaves in the messages and views is what a store of its desired value and then an `mfence` leave.
 pub fn a_successful_cas_is_a_store_and_a_fence()
     ensures { SwapIsStoreThenFence }
-{}
-
-/// What a failing cas leaves in the messages and views is what an `mfence`, a load at its position and an `mfence` leave.
-pub fn a_failing_cas_is_a_load_between_fences()
-    ensures { MissIsLoadBetweenFences }
 {}
 
 /// An event has one fault at most.

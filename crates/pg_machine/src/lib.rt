@@ -4,8 +4,7 @@
 //! in `specs/`, after Px86view. `State` is such a state: `fresh` gives the first one of a program, and `step` takes the step
 //! that an event leads to, or gives exactly the fault that it has and leaves the state as it was. With spare messages, which
 //! `reserve` provides, it does not run out of memory. The laws in `laws`: an event leads a state to one next state at most and
-//! has one fault at most, the fresh state is well formed, a step keeps a state so, and a cas is a store and a fence, or a load
-//! between fences.
+//! has one fault at most, the fresh state is well formed, a step keeps a state so, and a successful cas is a store and a fence.
 #![tactic(auto)]
 
 mod access;

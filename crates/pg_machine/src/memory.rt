@@ -1,8 +1,8 @@
-//! The memory: the initial values of the locations, and the messages.
+//! The memory: the initial values and the cache lines of the locations, and the messages.
 
 ghost use Rattle.std.specs.Prelude.{◌≡◌, ℕ, ◌+◌, ◌-◌, ◌<◌, ◌≤◌, true, [], ◌∷◌, ◌++◌, length, slice_index, slice_index_or, MatchOption, All, IfOk, IfErr, OnOk, OnErr};
-ghost use Rattle.pg_program.specs.NameTable.{initial};
-ghost use Rattle.pg_machine.specs.Memory.{is_at, value_at, last, last_value, is_clear, message_appended};
+ghost use Rattle.pg_program.specs.NameTable.{initial, lines, line_count};
+ghost use Rattle.pg_machine.specs.Memory.{line_of, is_at, value_at, last, last_value, is_clear, message_appended};
 ghost use Rattle.pg_machine.specs.Fault.{IsLeastHiding, IsFull};
 ghost use Rattle.pg_machine.specs.Refusal.{IsRefusal};
 ghost use Rattle.pg_machine.specs.Limits.{most_messages};
@@ -13,34 +13,36 @@ use pg_program::Names;
 use std::alloc::{AllocError, Global};
 use std::marker::Model;
 
-/// The initial values, and the messages, each with its location and value.
+/// The initial value and the cache line of each location, and the messages, each with its location and value. Locations and
+/// lines are numbered from 0; a position is 0 for the initial values, and else counts the messages from 1.
 #[derive(Drop)]
 pub struct Memory {
     initial: Vec<u8>,
+    lines: Vec<u8>,
     messages: Vec<(u8, u8)>,
 }
 
 impl Model for Memory {
-    ghost use Rattle.std.specs.Prelude.{◌-◌, ◌≤◌, length, vec_len, vec_capacity};
+    ghost use Rattle.std.specs.Prelude.{◌≡◌, ◌-◌, ◌≤◌, length, vec_len, vec_capacity};
     ghost use Rattle.pg_machine.specs.Held.{HeldMemory};
     ghost use Rattle.pg_machine.specs.Limits.{most_messages};
 
     ghost Value = { HeldMemory };
 
-    ghost view = { λ m. record { memory = record { initial = m.initial.items; messages = m.messages.items }; spare = vec_capacity m.messages - vec_len m.messages } };
+    ghost view = { λ m. record { memory = record { initial = m.initial.items; lines = m.lines.items; messages = m.messages.items }; spare = vec_capacity m.messages - vec_len m.messages } };
 
-    ghost invariant = { λ m. length m.messages.items ≤ most_messages };
+    ghost invariant = { λ m. (length m.lines.items ≡ length m.initial.items) × (length m.messages.items ≤ most_messages) };
 }
 
 impl Memory {
-    /// The memory without messages, with the initial values that are declared.
+    /// The memory without messages, with the initial values and the lines that are declared.
     pub fn fresh(alloc: Global, names: &Names) -> Result<Memory, AllocError>
         requires { All (λ v. v < 256) (initial names.now) }
-        ensures { IfOk result (λ m. m.memory ≡ record { initial = initial names.now; messages = [] }) }
+        ensures { IfOk result (λ m. m.memory ≡ record { initial = initial names.now; lines = lines names.now; messages = [] }) }
     {
-        let initial = declared_values(alloc, names)?;
         Ok(Memory {
-            initial,
+            initial: declared_values(alloc, names)?,
+            lines: declared_lines(alloc, names)?,
             messages: Vec::new(alloc),
         })
     }
@@ -76,6 +78,23 @@ impl Memory {
         ensures { result ≡ slice_index self.now.memory.initial location }
     {
         self.initial[usize::from(location)]
+    }
+
+    /// The cache line of a location.
+    pub fn line(&self, location: u8) -> u8
+        requires { location < length self.now.memory.initial }
+        ensures line { result ≡ line_of self.now.memory location }
+        ensures within { result < line_count self.now.memory.lines }
+    {
+        self.lines[usize::from(location)]
+    }
+
+    /// The cache line of each location.
+    pub fn lines(&self) -> &[u8]
+        ensures lines { result.now ≡ self.now.memory.lines }
+        ensures each { length result.now ≡ length self.now.memory.initial }
+    {
+        self.lines.as_slice()
     }
 
     /// Whether a position is one of the location.
@@ -145,4 +164,15 @@ fn declared_values(alloc: Global, names: &Names) -> Result<Vec<u8>, AllocError>
         values.push(names.init(location) as u8)?;
     }
     Ok(values)
+}
+
+/// The cache lines that are declared, in the order of the locations.
+fn declared_lines(alloc: Global, names: &Names) -> Result<Vec<u8>, AllocError>
+    ensures { IfOk result (λ ls. ls.items ≡ lines names.now) }
+{
+    let mut lines = Vec::new(alloc);
+    for location in 0..names.locations() {
+        lines.push(names.line(location))?;
+    }
+    Ok(lines)
 }

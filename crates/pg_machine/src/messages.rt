@@ -1,6 +1,6 @@
 //! The positions of a location among the messages, and the values there. A message is its location and its value.
 
-ghost use Rattle.std.specs.Prelude.{◌≡◌, ℕ, ◌<◌, ◌≤◌, true, length, MatchOption};
+ghost use Rattle.std.specs.Prelude.{◌≡◌, ℕ, List, ◌<◌, ◌≤◌, true, length, MatchOption};
 ghost use Rattle.pg_machine.specs.Memory.{is_at, value_at, last, is_clear};
 ghost use Rattle.pg_machine.specs.Fault.{IsLeastHiding};
 ghost use Rattle.pg_machine.specs.Limits.{most_messages};
@@ -20,7 +20,7 @@ pub fn is_at(messages: &[(u8, u8)], location: u8, position: u32) -> bool
 pub fn value_at(initial: &[u8], messages: &[(u8, u8)], location: u8, position: u32) -> u8
     requires location { location < length initial.now }
     requires position { position ≤ length messages.now }
-    ensures { result ≡ value_at (record { initial = initial.now; messages = messages.now }) location position }
+    ensures { (lines : List ℕ) → result ≡ value_at (record { initial = initial.now; lines = lines; messages = messages.now }) location position }
 {
     if position == 0 {
         return initial[usize::from(location)];

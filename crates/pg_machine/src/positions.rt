@@ -1,7 +1,7 @@
 //! Lists of positions.
 
 ghost use Rattle.std.specs.Prelude.{◌≡◌, ◌≤◌, length};
-ghost use Rattle.pg_machine.specs.State.{greatest};
+ghost use Rattle.pg_machine.specs.State.{greatest, greatest_on};
 ghost use Rattle.pg_machine.specs.Moves.{greater};
 
 /// The greatest of some positions, and 0 of none.
@@ -11,6 +11,21 @@ pub fn greatest(positions: &[u32]) -> u32
     let mut most: u32 = 0;
     for position in positions {
         most = most.max(*position);
+    }
+    most
+}
+
+/// The greatest of those positions of the locations that stand on a line, and 0 where there is none. Each location has its
+/// line.
+pub fn greatest_on(lines: &[u8], positions: &[u32], line: u8) -> u32
+    requires { length positions.now ≤ length lines.now }
+    ensures { result ≡ greatest_on lines.now positions.now line }
+{
+    let mut most: u32 = 0;
+    for (i, position) in positions.iter().enumerate() {
+        if lines[i] == line {
+            most = most.max(*position);
+        }
     }
     most
 }

@@ -1,6 +1,7 @@
 //! The row of each statement: what its act does by an event, and the branch that is taken.
 
 ghost use Rattle.std.specs.Prelude.{◌≡◌, ◌+◌, ◌<◌, ◌≤◌, length, if◌then◌else◌, false, All, IsSome, Some, None, IfErr, OnOk, OnErr};
+ghost use Rattle.pg_program.specs.Limits.{IsDomainSize};
 ghost use Rattle.pg_program.specs.declared.syntax.Act.{out-Act};
 ghost use Rattle.pg_program.specs.Words.{outside_in, locations_in, scalars_of, locations_of};
 ghost use Rattle.pg_program.specs.Graph.{step_of};
@@ -8,9 +9,9 @@ ghost use Rattle.pg_program.specs.Expr.{reads};
 ghost use Rattle.pg_machine.specs.Step.{Row, leaves, act_of, branch_taken, bracket_done};
 ghost use Rattle.pg_machine.specs.Fault.{RowFault};
 ghost use Rattle.pg_machine.specs.Limits.{most_messages};
-ghost use Rattle.pg_machine.specs.Held.{HeldMemory};
 ghost use Rattle.pg_machine.specs.Refusal.{IsRefusal};
-ghost use Rattle.pg_machine.specs.StepParts.{seen_in, AreSized, AreBelow, needs_memory, Does};
+ghost use Rattle.pg_machine.specs.State.{AreSized};
+ghost use Rattle.pg_machine.specs.StepParts.{seen_in, AreBelow, needs_memory, Does};
 
 use crate::access::{load, miss, store, swap};
 use crate::fault::StepFault;
@@ -27,11 +28,11 @@ pub fn run(
     views: &mut Views,
     scalars: &mut [u8],
 ) -> Result<(), StepFault>
-    requires domain { (2 ≤ domain) × (domain ≤ 6) }
+    requires domain { IsDomainSize domain }
     requires values { All (λ v. v < domain) scalars.old }
     requires scalars { All (λ r. r < length scalars.old) (scalars_of stmt.now) }
     requires locations { All (λ x. x < length memory.old.memory.initial) (locations_of stmt.now) }
-    requires sizes { AreSized memory.old views.old }
+    requires sizes { AreSized memory.old.memory views.old }
     requires stored { AreBelow domain memory.old }
     requires few { length memory.old.memory.messages ≤ most_messages }
     ensures ok { OnOk result (Does domain (seen_in memory.old views.old) scalars.old stmt.now choice (leaves (seen_in memory.new views.new) scalars.new)) }
@@ -54,11 +55,11 @@ pub fn act(
     views: &mut Views,
     scalars: &mut [u8],
 ) -> Result<(), StepFault>
-    requires domain { (2 ≤ domain) × (domain ≤ 6) }
+    requires domain { IsDomainSize domain }
     requires values { All (λ v. v < domain) scalars.old }
     requires scalars { All (λ r. r < length scalars.old) (outside_in (out-Act act.now)) }
     requires locations { All (λ x. x < length memory.old.memory.initial) (locations_in (out-Act act.now)) }
-    requires sizes { AreSized memory.old views.old }
+    requires sizes { AreSized memory.old.memory views.old }
     requires stored { AreBelow domain memory.old }
     requires few { length memory.old.memory.messages ≤ most_messages }
     ensures ok { OnOk result (Row domain (seen_in memory.old views.old) scalars.old (out-Act act.now) choice (leaves (seen_in memory.new views.new) scalars.new)) }
@@ -83,11 +84,11 @@ fn read(
     views: &mut Views,
     scalars: &mut [u8],
 ) -> Result<(), StepFault>
-    requires domain { (2 ≤ domain) × (domain ≤ 6) }
+    requires domain { IsDomainSize domain }
     requires values { All (λ v. v < domain) scalars.old }
     requires scalars { All (λ r. r < length scalars.old) (outside_in (out-Act act.now)) }
     requires locations { All (λ x. x < length memory.now.memory.initial) (locations_in (out-Act act.now)) }
-    requires sizes { AreSized memory.now views.old }
+    requires sizes { AreSized memory.now.memory views.old }
     requires stored { AreBelow domain memory.now }
     ensures ok { OnOk result (Row domain (seen_in memory.now views.old) scalars.old (out-Act act.now) (Some position) (leaves (seen_in memory.now views.new) scalars.new)) }
     ensures err { IfErr result (λ f. RowFault domain (seen_in memory.now views.old) scalars.old (out-Act act.now) (Some position) f) }
@@ -123,11 +124,11 @@ fn act_alone(
     views: &mut Views,
     scalars: &mut [u8],
 ) -> Result<(), StepFault>
-    requires domain { (2 ≤ domain) × (domain ≤ 6) }
+    requires domain { IsDomainSize domain }
     requires values { All (λ v. v < domain) scalars.old }
     requires scalars { All (λ r. r < length scalars.old) (outside_in (out-Act act.now)) }
     requires locations { All (λ x. x < length memory.old.memory.initial) (locations_in (out-Act act.now)) }
-    requires sizes { AreSized memory.old views.old }
+    requires sizes { AreSized memory.old.memory views.old }
     requires few { length memory.old.memory.messages ≤ most_messages }
     ensures ok { OnOk result (Row domain (seen_in memory.old views.old) scalars.old (out-Act act.now) None (leaves (seen_in memory.new views.new) scalars.new)) }
     ensures err { IfErr result (λ f. IsRefusal (RowFault domain (seen_in memory.old views.old) scalars.old (out-Act act.now) None) memory.old.spare f) }
@@ -155,22 +156,21 @@ fn act_alone(
             store(memory, views, *location, value)
         }
         _ => {
-            move_views(act, domain, views, scalars);
+            move_views(act, domain, memory, views, scalars);
             Ok(())
         }
     }
 }
 
-/// Does an act that neither reads nor writes a location.
-fn move_views(act: &Act, domain: u32, views: &mut Views, scalars: &mut [u8])
+/// Does an act that neither reads nor writes a location. A flush is of the location's line.
+fn move_views(act: &Act, domain: u32, memory: &Memory, views: &mut Views, scalars: &mut [u8])
     requires kind { needs_memory (out-Act act.now) ≡ false }
-    requires domain { (2 ≤ domain) × (domain ≤ 6) }
+    requires domain { IsDomainSize domain }
     requires values { All (λ v. v < domain) scalars.old }
     requires scalars { All (λ r. r < length scalars.old) (outside_in (out-Act act.now)) }
-    requires locations { All (λ x. x < length views.old.coh) (locations_in (out-Act act.now)) }
-    requires vpa { length views.old.vpa ≡ length views.old.coh }
-    requires vpc { length views.old.vpc ≡ length views.old.coh }
-    ensures row { (m : HeldMemory) → Row domain (seen_in m views.old) scalars.old (out-Act act.now) None (leaves (seen_in m views.new) scalars.new) }
+    requires locations { All (λ x. x < length memory.now.memory.initial) (locations_in (out-Act act.now)) }
+    requires sizes { AreSized memory.now.memory views.old }
+    ensures row { Row domain (seen_in memory.now views.old) scalars.old (out-Act act.now) None (leaves (seen_in memory.now views.new) scalars.new) }
     ensures values { All (λ v. v < domain) scalars.new }
 {
     match act {
@@ -179,15 +179,15 @@ fn move_views(act: &Act, domain: u32, views: &mut Views, scalars: &mut [u8])
         }
         Act::Mfence => views.mfence(),
         Act::Sfence => views.sfence(),
-        Act::Flush { location } => views.flush(*location),
-        Act::Flushopt { location } => views.flushopt(*location),
+        Act::Flush { location } => views.flush(memory.line(*location)),
+        Act::Flushopt { location } => views.flushopt(memory.lines(), memory.line(*location)),
         _ => {}
     }
 }
 
 /// The branch that is taken: a test takes that of its truth.
 pub fn branch_taken(act: &Act, scalars: &[u8], domain: u32) -> Branch
-    requires domain { (2 ≤ domain) × (domain ≤ 6) }
+    requires domain { IsDomainSize domain }
     requires values { All (λ v. v < domain) scalars.now }
     requires scalars { All (λ r. r < length scalars.now) (outside_in (out-Act act.now)) }
     ensures { result ≡ branch_taken domain scalars.now (out-Act act.now) }
@@ -205,17 +205,17 @@ fn branch_of(holds: bool) -> Branch
     if holds { Branch::Yes } else { Branch::No }
 }
 
-/// Where the step of a branch leads.
-pub fn target(steps: &[Step], branch: Branch) -> u8
+/// The step of a branch.
+pub fn step_of(steps: &[Step], branch: Branch) -> Step
     requires { IsSome (step_of branch steps.now) }
-    ensures { option_map (λ s. s.target) (step_of branch steps.now) ≡ Some result }
+    ensures { step_of branch steps.now ≡ Some result }
 {
     match steps {
         [step, rest @ ..] => {
             if step.branch == branch {
-                step.target
+                *step
             } else {
-                target(rest, branch)
+                step_of(rest, branch)
             }
         }
         [] => unreachable!(),
@@ -224,7 +224,7 @@ pub fn target(steps: &[Step], branch: Branch) -> u8
 
 /// Makes the assignments of a bracket together: each value is taken before the first is written.
 pub fn assign(bracket: &[AuxAssign], domain: u32, scalars: &mut [u8])
-    requires domain { (2 ≤ domain) × (domain ≤ 6) }
+    requires domain { IsDomainSize domain }
     requires values { All (λ v. v < domain) scalars.old }
     requires targets { All (λ a. a.target < length scalars.old) bracket.now }
     requires names { All (λ a. All (λ r. r < length scalars.old) (reads a.expr)) bracket.now }

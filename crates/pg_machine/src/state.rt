@@ -3,7 +3,9 @@
 ghost use Rattle.std.specs.Prelude.{◌≡◌, ◌≢◌, ℕ, ◌+◌, ◌-◌, ◌<◌, ◌≤◌, length, replicate, slice_index, slice_index_or, Some, IfOk, IfErr, OnOk, OnErr};
 ghost use Rattle.pg_program.specs.Program.{IsProgram, stmt_at};
 ghost use Rattle.pg_machine.specs.Limits.{most_messages};
-ghost use Rattle.pg_machine.specs.State.{fresh, fresh_views, point_of, coh_of, vpa_of, vpc_of, maxcoh, IsWellFormed};
+ghost use Rattle.pg_machine.specs.State.{fresh, fresh_views, point_of, coh_of, vpa_of, vpc_of, maxcoh, lcoh, AreSized, IsWellFormed};
+ghost use Rattle.pg_machine.specs.Memory.{line_of};
+ghost use Rattle.pg_program.specs.NameTable.{line_count};
 ghost use Rattle.pg_machine.specs.Step.{views_of, IsStep};
 ghost use Rattle.pg_machine.specs.Fault.{IsFault, ActFault};
 ghost use Rattle.pg_machine.specs.Refusal.{IsRefusal, IsTaken};
@@ -11,14 +13,14 @@ ghost use Rattle.pg_machine.specs.Refusal.{IsRefusal, IsTaken};
 use crate::event::Event;
 use crate::fault::StepFault;
 use crate::memory::Memory;
-use crate::row::{branch_taken, run, target};
+use crate::row::{branch_taken, run, step_of};
 use crate::views::Views;
 use pg_program::{PointId, Program, Stmt};
 use std::alloc::{AllocError, Global};
 use std::marker::Model;
 
-/// A state of a program. Threads and points are numbered from 1, locations and scalars from 0. A position is 0 for the initial
-/// values, and else counts the messages from 1; each view is a position.
+/// A state of a program. Threads and points are numbered from 1; locations, lines and scalars from 0, in the order of
+/// declaration. A position is 0 for the initial values, and else counts the messages from 1; each view is a position.
 #[derive(Drop)]
 pub struct State {
     memory: Memory,
@@ -28,7 +30,8 @@ pub struct State {
 }
 
 impl Model for State {
-    ghost use Rattle.std.specs.Prelude.{◌≤◌, length};
+    ghost use Rattle.std.specs.Prelude.{◌≡◌, ◌≤◌, All, length};
+    ghost use Rattle.pg_machine.specs.State.{AreSized};
     ghost use Rattle.pg_machine.specs.Held.{Held};
     ghost use Rattle.pg_machine.specs.Limits.{most_messages};
 
@@ -39,7 +42,7 @@ impl Model for State {
       spare = s.memory.spare;
     } };
 
-    ghost invariant = { λ s. length s.memory.memory.messages ≤ most_messages };
+    ghost invariant = { λ s. (length s.memory.memory.messages ≤ most_messages) × (length s.points.items ≡ length s.views.items) × All (AreSized s.memory.memory) s.views.items };
 }
 
 impl State {
@@ -49,11 +52,12 @@ impl State {
         ensures formed { IfOk result (λ s. IsWellFormed p.now s.state) }
     {
         let locations = usize::from(p.names().locations());
+        let lines = usize::from(p.names().lines());
         let scalars = usize::from(p.names().scalars());
         let threads = usize::from(p.threads());
         Ok(State {
             memory: Memory::fresh(alloc, p.names())?,
-            views: fresh_views(alloc, threads, locations)?,
+            views: fresh_views(alloc, threads, locations, lines)?,
             scalars: vec![in alloc; 0; scalars]?,
             points: vec![in alloc; 1; threads]?,
         })
@@ -70,7 +74,7 @@ impl State {
 
     /// The point of a thread, both numbered from 1.
     pub fn point(&self, thread: u8) -> u8
-        requires { (1 ≤ thread) × (thread ≤ length self.now.state.points) }
+        requires { (1 ≤ thread) × (thread ≤ length self.now.state.views) }
         ensures { result ≡ point_of self.now.state thread }
     {
         self.points[usize::from(thread) - 1]
@@ -115,10 +119,27 @@ impl State {
         self.memory.init(location)
     }
 
+    /// The cache line of a location. Both are numbered from 0.
+    pub fn line(&self, location: u8) -> u8
+        requires { location < length self.now.state.memory.initial }
+        ensures line { result ≡ line_of self.now.state.memory location }
+        ensures within { result < line_count self.now.state.memory.lines }
+    {
+        self.memory.line(location)
+    }
+
+    /// The cache line of each location.
+    pub fn lines(&self) -> &[u8]
+        ensures lines { result.now ≡ self.now.state.memory.lines }
+        ensures each { length result.now ≡ length self.now.state.memory.initial }
+    {
+        self.memory.lines()
+    }
+
     /// The coherence view of a thread, numbered from 1, of a location, numbered from 0: a position, 0 or counted from 1.
     pub fn coh(&self, thread: u8, location: u8) -> u32
         requires thread { (1 ≤ thread) × (thread ≤ length self.now.state.views) }
-        requires location { location < length (views_of self.now.state thread).coh }
+        requires location { location < length self.now.state.memory.initial }
         ensures { result ≡ coh_of (views_of self.now.state thread) location }
     {
         self.seen(thread).coh(location)
@@ -130,6 +151,14 @@ impl State {
         ensures { result ≡ maxcoh (views_of self.now.state thread) }
     {
         self.seen(thread).maxcoh()
+    }
+
+    /// The greatest coherence view of a thread, numbered from 1, of a location on a line, numbered from 0.
+    pub fn lcoh(&self, thread: u8, line: u8) -> u32
+        requires { (1 ≤ thread) × (thread ≤ length self.now.state.views) }
+        ensures { result ≡ lcoh self.now.state.memory.lines (views_of self.now.state thread) line }
+    {
+        self.seen(thread).lcoh(self.memory.lines(), line)
     }
 
     /// The read view of a thread, numbered from 1: a position.
@@ -148,22 +177,22 @@ impl State {
         self.seen(thread).vpr()
     }
 
-    /// The asynchronous view of a thread, numbered from 1, of a location, numbered from 0: a position.
-    pub fn vpa(&self, thread: u8, location: u8) -> u32
+    /// The asynchronous view of a thread, numbered from 1, of a line, numbered from 0: a position.
+    pub fn vpa(&self, thread: u8, line: u8) -> u32
         requires thread { (1 ≤ thread) × (thread ≤ length self.now.state.views) }
-        requires location { location < length (views_of self.now.state thread).vpa }
-        ensures { result ≡ vpa_of (views_of self.now.state thread) location }
+        requires line { line < line_count self.now.state.memory.lines }
+        ensures { result ≡ vpa_of (views_of self.now.state thread) line }
     {
-        self.seen(thread).vpa(location)
+        self.seen(thread).vpa(line)
     }
 
-    /// The committed view of a thread, numbered from 1, of a location, numbered from 0: a position.
-    pub fn vpc(&self, thread: u8, location: u8) -> u32
+    /// The committed view of a thread, numbered from 1, of a line, numbered from 0: a position.
+    pub fn vpc(&self, thread: u8, line: u8) -> u32
         requires thread { (1 ≤ thread) × (thread ≤ length self.now.state.views) }
-        requires location { location < length (views_of self.now.state thread).vpc }
-        ensures { result ≡ vpc_of (views_of self.now.state thread) location }
+        requires line { line < line_count self.now.state.memory.lines }
+        ensures { result ≡ vpc_of (views_of self.now.state thread) line }
     {
-        self.seen(thread).vpc(location)
+        self.seen(thread).vpc(line)
     }
 
     /// Takes the step that an event leads to. A refusal leaves the state as it was. Either way the state is well formed again, so a
@@ -214,7 +243,7 @@ impl State {
     {
         let domain = p.names().domain();
         let branch = branch_taken(&stmt.act, &self.scalars, domain);
-        let target = target(p.steps(at), branch);
+        let step = step_of(p.steps(at), branch);
         let t = usize::from(at.thread) - 1;
         let views = &mut self.views[t];
         run(
@@ -225,25 +254,31 @@ impl State {
             views,
             &mut self.scalars,
         )?;
-        self.points[t] = target;
+        self.points[t] = step.target;
         Ok(())
     }
 
     fn seen(&self, thread: u8) -> &Views
         requires { (1 ≤ thread) × (thread ≤ length self.now.state.views) }
-        ensures { result.now ≡ views_of self.now.state thread }
+        ensures views { result.now ≡ views_of self.now.state thread }
+        ensures sized { AreSized self.now.state.memory result.now }
     {
         &self.views[usize::from(thread) - 1]
     }
 }
 
 /// The views of threads that have done nothing.
-fn fresh_views(alloc: Global, threads: usize, locations: usize) -> Result<Vec<Views>, AllocError>
-    ensures { IfOk result (λ vs. vs.items ≡ replicate threads (fresh_views locations)) }
+fn fresh_views(
+    alloc: Global,
+    threads: usize,
+    locations: usize,
+    lines: usize,
+) -> Result<Vec<Views>, AllocError>
+    ensures { IfOk result (λ vs. vs.items ≡ replicate threads (fresh_views locations lines)) }
 {
     let mut views = Vec::new(alloc);
     for _thread in 0..threads {
-        views.push(Views::fresh(alloc, locations)?)?;
+        views.push(Views::fresh(alloc, locations, lines)?)?;
     }
     Ok(views)
 }

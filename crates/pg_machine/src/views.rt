@@ -1,10 +1,10 @@
 //! The views of one thread.
 
-ghost use Rattle.std.specs.Prelude.{◌≡◌, ◌<◌, length, IfOk};
-ghost use Rattle.pg_machine.specs.State.{coh_of, vpa_of, vpc_of, maxcoh, ordered, fresh_views};
+ghost use Rattle.std.specs.Prelude.{◌≡◌, ◌<◌, ◌≤◌, length, IfOk};
+ghost use Rattle.pg_machine.specs.State.{coh_of, vpa_of, vpc_of, maxcoh, lcoh, fresh_views};
 ghost use Rattle.pg_machine.specs.Moves.{store_seen, load_seen, mfence_seen, sfence_seen, flush_seen, flushopt_seen, swap_seen};
 
-use crate::positions::{greatest, raise};
+use crate::positions::{greatest, greatest_on, raise};
 use std::alloc::{AllocError, Global};
 use std::marker::Model;
 
@@ -27,16 +27,16 @@ impl Model for Views {
 }
 
 impl Views {
-    /// The views of a thread that has done nothing, over this number of locations.
-    pub fn fresh(alloc: Global, locations: usize) -> Result<Views, AllocError>
-        ensures { IfOk result (λ w. w ≡ fresh_views locations) }
+    /// The views of a thread that has done nothing, over so many locations and lines.
+    pub fn fresh(alloc: Global, locations: usize, lines: usize) -> Result<Views, AllocError>
+        ensures { IfOk result (λ w. w ≡ fresh_views locations lines) }
     {
         Ok(Views {
             coh: vec![in alloc; 0; locations]?,
             vrn: 0,
             vpr: 0,
-            vpa: vec![in alloc; 0; locations]?,
-            vpc: vec![in alloc; 0; locations]?,
+            vpa: vec![in alloc; 0; lines]?,
+            vpc: vec![in alloc; 0; lines]?,
         })
     }
 
@@ -62,20 +62,20 @@ impl Views {
         self.vpr
     }
 
-    /// The asynchronous view of a location.
-    pub fn vpa(&self, location: u8) -> u32
-        requires { location < length self.now.vpa }
-        ensures { result ≡ vpa_of self.now location }
+    /// The asynchronous view of a line.
+    pub fn vpa(&self, line: u8) -> u32
+        requires { line < length self.now.vpa }
+        ensures { result ≡ vpa_of self.now line }
     {
-        self.vpa[usize::from(location)]
+        self.vpa[usize::from(line)]
     }
 
-    /// The committed view of a location.
-    pub fn vpc(&self, location: u8) -> u32
-        requires { location < length self.now.vpc }
-        ensures { result ≡ vpc_of self.now location }
+    /// The committed view of a line.
+    pub fn vpc(&self, line: u8) -> u32
+        requires { line < length self.now.vpc }
+        ensures { result ≡ vpc_of self.now line }
     {
-        self.vpc[usize::from(location)]
+        self.vpc[usize::from(line)]
     }
 
     /// The greatest coherence view.
@@ -83,6 +83,14 @@ impl Views {
         ensures { result ≡ maxcoh self.now }
     {
         greatest(&self.coh)
+    }
+
+    /// The greatest coherence view of a location on a line, where each location has its line.
+    pub fn lcoh(&self, lines: &[u8], line: u8) -> u32
+        requires { length self.now.coh ≤ length lines.now }
+        ensures { result ≡ lcoh lines.now self.now line }
+    {
+        greatest_on(lines, &self.coh, line)
     }
 
     /// A store to a location, whose message is at this position.
@@ -125,27 +133,27 @@ impl Views {
         raise(&mut self.vpc, &self.vpa);
     }
 
-    /// A flush of a location.
-    pub fn flush(&mut self, location: u8)
-        requires vpa { location < length self.old.vpa }
-        requires vpc { location < length self.old.vpc }
-        ensures { self.new ≡ flush_seen self.old location }
+    /// A flush of a line.
+    pub fn flush(&mut self, line: u8)
+        requires vpa { line < length self.old.vpa }
+        requires vpc { line < length self.old.vpc }
+        ensures { self.new ≡ flush_seen self.old line }
     {
-        let x = usize::from(location);
+        let l = usize::from(line);
         let most = greatest(&self.coh);
-        self.vpa[x] = self.vpa[x].max(most);
-        self.vpc[x] = self.vpc[x].max(most);
+        self.vpa[l] = self.vpa[l].max(most);
+        self.vpc[l] = self.vpc[l].max(most);
     }
 
-    /// An optimised flush of a location.
-    pub fn flushopt(&mut self, location: u8)
-        requires coh { location < length self.old.coh }
-        requires vpa { location < length self.old.vpa }
-        ensures { self.new ≡ flushopt_seen self.old location }
+    /// An optimised flush of a line, where each location has its line.
+    pub fn flushopt(&mut self, lines: &[u8], line: u8)
+        requires coh { length self.old.coh ≤ length lines.now }
+        requires vpa { line < length self.old.vpa }
+        ensures { self.new ≡ flushopt_seen lines.now self.old line }
     {
-        let x = usize::from(location);
-        let bound = self.coh[x].max(self.vpr);
-        self.vpa[x] = self.vpa[x].max(bound);
+        let l = usize::from(line);
+        let bound = greatest_on(lines, &self.coh, line).max(self.vpr);
+        self.vpa[l] = self.vpa[l].max(bound);
     }
 
     /// A successful cas of a location, whose message is at this position.

@@ -1,12 +1,12 @@
 use Rattle.std.proofs.Common.{ℕ, ◌<◌, List, [], ◌∷◌, ◌++◌, take, get_or, sym, ap, ◌∙◌, arith}
-use Rattle.pg_program.specs.NameTable.{initial}
-use Rattle.pg_machine.proofs.Made.{second_of, take-next}
+use Rattle.pg_program.specs.NameTable.{Location, initial}
+use Rattle.pg_machine.proofs.Made.{number_at, take-next}
 use Rattle.pg_machine.proofs.memory.declared_values.Goals as goal
 
 pub overflow_cast-init : goal.overflow_cast-init
 overflow_cast-init c =
     let x = c.loop-location.location in
-    let found = second_of c.args.names.now.locations x c.init.result c.init.ensures in
+    let found = number_at (λ (l : Location). l.init) c.args.names.now.locations x c.init.result c.init.ensures in
     let is = found.is in
     let low : get_or (initial c.args.names.now) x 0 < 256 = c.requires x 0 found.inside in
     omega (arith, is, low)
@@ -14,7 +14,7 @@ overflow_cast-init c =
 pub loop-location-preserved : goal.loop-location-preserved
 loop-location-preserved c =
     let x = c.loop-location.location in
-    let found = second_of c.args.names.now.locations x c.init.result c.init.ensures in
+    let found = number_at (λ (l : Location). l.init) c.args.names.now.locations x c.init.result c.init.ensures in
     let vs = initial c.args.names.now in
     c.in_ok-push.ensures.items
     ∙ (ap (λ (l : List ℕ). l ++ c.init.result ∷ []) c.loop-location.invariant
