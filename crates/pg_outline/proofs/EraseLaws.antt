@@ -186,7 +186,7 @@ module _ (names : NameTable) (none : (r : ℕ) → is_auxiliary_kind (slice_get 
 pub bare_stays : BareStays
 bare_stays p h bare =
     ap₂ (λ (l : List (List ℕ × ScalarKind)) (ts : List (List Stmt)).
-    let names : NameTable = record { domain = p.names.domain; locations = p.names.locations; scalars = l } in
+    let names : NameTable = record p.names { scalars = l } in
     let q : ProgramTable = record { names = names; threads = ts } in
     q)
     (all_registers p.names.scalars bare.scalars) (same_threads p.names bare.scalars p.threads h.threads.each bare.brackets)

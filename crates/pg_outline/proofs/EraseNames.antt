@@ -1,5 +1,5 @@
 -- The registers among the scalars: their places, their names and their owners.
-use Rattle.std.proofs.Common.{◌≡◌, ℕ, zero, suc, ◌+◌, ◌<◌, ◌≤◌, Bool, true, false, cond, ◌&&◌, nat_le, List, [], ◌∷◌, ◌++◌, length, take, Option, Some, None, option_map, slice_get, refl, sym, ap, ◌∙◌, arith}
+use Rattle.std.proofs.Common.{◌≡◌, ℕ, zero, suc, ◌+◌, ◌<◌, ◌≤◌, Bool, true, false, cond, ◌&&◌, nat_le, List, [], ◌∷◌, ◌++◌, length, map, take, Option, Some, None, option_map, slice_get, refl, sym, ap, subst, ◌∙◌, arith}
 use Rattle.std.specs.Str.{bytes_eq}
 use Rattle.std.proofs.lemmas.Bool.{lt-leb}
 use Rattle.pg_program.specs.declared.name_table.NameKind.{NameKind}
@@ -7,9 +7,11 @@ use Rattle.pg_program.specs.declared.name_table.NameKind.TheVariants as kind
 use Rattle.pg_program.specs.declared.name_table.NameRef.TheVariants as ref
 use Rattle.pg_program.specs.declared.name_table.ScalarKind.{ScalarKind}
 use Rattle.pg_program.specs.declared.name_table.ScalarKind.TheVariants as scalar
-use Rattle.pg_program.specs.NameTable.{NameTable, IsNameTable, place_in, find, found, kind_of, with_name, is_auxiliary_kind}
+use Rattle.pg_program.specs.Limits.{most_scalars}
+use Rattle.pg_program.specs.NameTable.{NameTable, Location, IsNameTable, location_names, scalar_names, place_in, find, found, kind_of, with_name, is_auxiliary_kind}
 use Rattle.pg_program.specs.Fault.{unknown_owner}
-use Rattle.pg_outline.specs.Erasure.{registers}
+use Rattle.pg_outline.specs.Erasure.{registers, first_locations}
+use Rattle.pg_outline.proofs.LocationLines.{owned}
 
 abbrev Scalars : Type 0
 Scalars = List (List ℕ × ScalarKind)
@@ -118,19 +120,22 @@ absent_parts true o h = cc
 absent_parts false None h = (refl, refl)
 absent_parts false (Some i) h = cc
 
-absent_before : {V : Type 0} (name : List ℕ) (es : List (List ℕ × V)) (i : ℕ) → place_in name es ≡ Some i → place_in name (take i es) ≡ None
-absent_before name [] i h = cc
-absent_before name (e ∷ es) zero h = refl
-absent_before name (e ∷ es) (suc i) h =
-    let parts = before_step (bytes_eq name e.0) (place_in name es) i h in
-    absent_step (bytes_eq name e.0) (place_in name (take i es)) parts.0 (absent_before name es i parts.1)
+absent_before : {X : Type 0} (called : X → List ℕ) (name : List ℕ) (xs : List X) (i : ℕ) → place_in name (map called xs) ≡ Some i → place_in name (map called (take i xs)) ≡ None
+absent_before called name [] i h = cc
+absent_before called name (x ∷ xs) zero h = refl
+absent_before called name (x ∷ xs) (suc i) h =
+    let parts = before_step (bytes_eq name (called x)) (place_in name (map called xs)) i h in
+    absent_step (bytes_eq name (called x)) (place_in name (map called (take i xs))) parts.0 (absent_before called name xs i parts.1)
 
-absent_among : (name : List ℕ) (es : Scalars) → place_in name es ≡ None → place_in name (registers es) ≡ None
+abbrev names_of : Scalars → List (List ℕ)
+names_of es = map (λ e. e.0) es
+
+absent_among : (name : List ℕ) (es : Scalars) → place_in name (names_of es) ≡ None → place_in name (names_of (registers es)) ≡ None
 absent_among name [] h = h
 absent_among name ((n, scalar.Register o) ∷ es) h =
-    let parts = absent_parts (bytes_eq name n) (place_in name es) h in
-    absent_step (bytes_eq name n) (place_in name (registers es)) parts.0 (absent_among name es parts.1)
-absent_among name ((n, scalar.Auxiliary) ∷ es) h = absent_among name es (absent_parts (bytes_eq name n) (place_in name es) h).1
+    let parts = absent_parts (bytes_eq name n) (place_in name (names_of es)) h in
+    absent_step (bytes_eq name n) (place_in name (names_of (registers es))) parts.0 (absent_among name es parts.1)
+absent_among name ((n, scalar.Auxiliary) ∷ es) h = absent_among name es (absent_parts (bytes_eq name n) (place_in name (names_of es)) h).1
 
 -- what the place of a name says of the two lists
 found_location : (o p : Option ℕ) (x : ℕ) → found o p ≡ Some (ref.Location x) → o ≡ Some x
@@ -148,42 +153,48 @@ found_none None None h k = refl
 found_none None (Some q) h k = cc
 found_none (Some y) p h k = cc
 
-owned : {V : Type 0} (o : Option (List ℕ × V)) (name : List ℕ) → option_map (λ e. e.0) o ≡ Some name → (v : V) × (o ≡ Some (name, v))
-owned None name h = cc
-owned {V} (Some (n, v)) name h = let same : n ≡ name = cc in (v, ap (λ (m : List ℕ). let w : Option (List ℕ × V) = Some (m, v) in w) same)
+-- the location at this place
+pub at_place : (names : NameTable) (x : ℕ) (name : List ℕ) → option_map (λ l. l.name) (slice_get names.locations x) ≡ Some name
+    → (l : Location) × (slice_get names.locations x ≡ Some l) × (l.name ≡ name)
+at_place names x name h = owned (λ (l : Location). l.name) (slice_get names.locations x) name h
 
 -- the name of a location is new behind the locations before it
-pub new_location : (names : NameTable) → IsNameTable names → (x : ℕ) (name : List ℕ) (t : NameTable) → option_map (λ e. e.0) (slice_get names.locations x) ≡ Some name
-    → t ≡ record { domain = names.domain; locations = take x names.locations; scalars = [] } → find name t ≡ None
+pub new_location : (names : NameTable) → IsNameTable names → (x : ℕ) (name : List ℕ) (t : NameTable) → option_map (λ l. l.name) (slice_get names.locations x) ≡ Some name
+    → t ≡ first_locations x names → find name t ≡ None
 new_location names well x name t h is =
-    let own = owned (slice_get names.locations x) name h in
+    let own = at_place names x name h in
+    let at = subst (λ (n : List ℕ). find n names ≡ Some (ref.Location x)) own.2 (well.own_location x own.0 own.1) in
     ap (find name) is
-    ∙ found_none (place_in name (take x names.locations)) None (absent_before name names.locations x (found_location (place_in name names.locations) (place_in name names.scalars) x (well.own_location x own.0 name own.1))) refl
-
--- the name of a scalar is new behind the registers before it
-pub new_scalar : (names : NameTable) → IsNameTable names → (r : ℕ) (name : List ℕ) (t : NameTable) → option_map (λ e. e.0) (slice_get names.scalars r) ≡ Some name
-    → t ≡ record { domain = names.domain; locations = names.locations; scalars = registers (take r names.scalars) } → find name t ≡ None
-new_scalar names well r name t h is =
-    let own = owned (slice_get names.scalars r) name h in
-    let at = found_scalar (place_in name names.locations) (place_in name names.scalars) r (well.own_scalar r own.0 name own.1) in
-    ap (find name) is
-    ∙ found_none (place_in name names.locations) (place_in name (registers (take r names.scalars))) at.0 (absent_among name (take r names.scalars) (absent_before name names.scalars r at.1))
-
--- there is room for each of them
-pub scalar_room : (names : NameTable) (r : ℕ) (t : NameTable) → r < length names.scalars → length names.scalars ≤ 16
-    → t ≡ record { domain = names.domain; locations = names.locations; scalars = registers (take r names.scalars) } → nat_le 16 (length t.scalars) ≡ false
-scalar_room names r t lt few is =
-    ap (λ (u : NameTable). nat_le 16 (length u.scalars)) is ∙ (let k = few_registers names.scalars r in lt-leb 16 (length (registers (take r names.scalars))) (omega arith))
-
--- ---- the turns of the loops
+    ∙ found_none (place_in name (map (λ l. l.name) (take x names.locations))) None
+    (absent_before (λ (l : Location). l.name) name names.locations x (found_location (place_in name (location_names names)) (place_in name (scalar_names names)) x at)) refl
 
 -- the table with all locations and the registers among the first r scalars
 abbrev pub registered : NameTable → ℕ → NameTable
-registered names r = record { domain = names.domain; locations = names.locations; scalars = registers (take r names.scalars) }
+registered names r = record names { scalars = registers (take r names.scalars) }
+
+-- the name of a scalar is new behind the registers before it
+pub new_scalar : (names : NameTable) → IsNameTable names → (r : ℕ) (name : List ℕ) (t : NameTable) → option_map (λ e. e.0) (slice_get names.scalars r) ≡ Some name
+    → t ≡ registered names r → find name t ≡ None
+new_scalar names well r name t h is =
+    let own = owned (λ (e : List ℕ × ScalarKind). e.0) (slice_get names.scalars r) name h in
+    let here = subst (λ (n : List ℕ). find n names ≡ Some (ref.Scalar r)) own.2 (well.own_scalar r own.0.1 own.0.0 own.1) in
+    let at = found_scalar (place_in name (location_names names)) (place_in name (scalar_names names)) r here in
+    ap (find name) is
+    ∙ found_none (place_in name (location_names names)) (place_in name (names_of (registers (take r names.scalars)))) at.0
+    (absent_among name (take r names.scalars) (absent_before (λ (e : List ℕ × ScalarKind). e.0) name names.scalars r at.1))
+
+-- there is room for each of them
+pub scalar_room : (names : NameTable) (r : ℕ) (t : NameTable) → r < length names.scalars → length names.scalars ≤ most_scalars
+    → t ≡ registered names r → nat_le most_scalars (length t.scalars) ≡ false
+scalar_room names r t lt few is =
+    ap (λ (u : NameTable). nat_le most_scalars (length u.scalars)) is
+    ∙ (let k = few_registers names.scalars r in lt-leb most_scalars (length (registers (take r names.scalars))) (omega arith))
+
+-- ---- the turns of the loops
 
 with_scalars : (names : NameTable) (xs ys : Scalars) → xs ≡ ys
-    → let t : NameTable = record { domain = names.domain; locations = names.locations; scalars = xs } in t ≡ record { domain = names.domain; locations = names.locations; scalars = ys }
-with_scalars names xs ys h = ap (λ (l : Scalars). let t : NameTable = record { domain = names.domain; locations = names.locations; scalars = l } in t) h
+    → let t : NameTable = record names { scalars = xs } in t ≡ record names { scalars = ys }
+with_scalars names xs ys h = ap (λ (l : Scalars). let t : NameTable = record names { scalars = l } in t) h
 
 pub one_register : (names : NameTable) (r owner : ℕ) (name : List ℕ) (old new : NameTable) → option_map (λ e. e.0) (slice_get names.scalars r) ≡ Some name
     → option_map (λ e. kind_of e.1) (slice_get names.scalars r) ≡ Some (kind.Register owner) → old ≡ registered names r → new ≡ with_name name (kind.Register owner) old → new ≡ registered names (r + 1)

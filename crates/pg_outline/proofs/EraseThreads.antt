@@ -55,7 +55,7 @@ all_none a b c d e f g h ia ib ic id ie if ig ih =
 
 no_fault : (names : NameTable) (threads : List (List Stmt)) → Faultless names threads → first_fault names threads ≡ None
 no_fault names threads h =
-    all_none (domain_fault names.domain) (option_map unknown_thread (unknown_owner (length threads) names.scalars)) (in_threads (own_registers names) 1 threads) (in_threads (no_auxiliaries names) 1 threads) (in_threads (distinct_targets names) 1 threads)
+    all_none (domain_fault names.version names.domain) (option_map unknown_thread (unknown_owner (length threads) names.scalars)) (in_threads (own_registers names) 1 threads) (in_threads (no_auxiliaries names) 1 threads) (in_threads (distinct_targets names) 1 threads)
     (option_map value_out_of_domain (first_outside names.domain (initial names))) (in_threads (numbers_inside names) 1 threads) (in_threads (few_names names) 1 threads)
     h.domain h.owners h.own h.bare h.apart h.initial h.inside h.few
 

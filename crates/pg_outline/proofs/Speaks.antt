@@ -1,6 +1,6 @@
 -- The formulas of an outline speak of its program.
 use Rattle.std.proofs.Common.{◌≡◌, ℕ, zero, suc, ◌+◌, ◌<◌, ◌≤◌, ◌==◌, Bool, true, false, ◌&&◌, if◌then◌else◌, nat_le, List, [], ◌∷◌, length, map, get_or, None, Some, refl, arith}
-use Rattle.std.specs.List.{All, filter, flat_map, fold, range_with_len}
+use Rattle.std.specs.List.{All, flat_map, fold, range_with_len}
 use Rattle.std.proofs.lemmas.Bool.{leb-true}
 use Rattle.std.proofs.lemmas.List.Elements.{All-nil, All-cons, All-head, All-tail, All-append, All-map, All-weaker, All-filter}
 use Rattle.pg_program.specs.NameTable.{NameTable}
@@ -11,7 +11,7 @@ use Rattle.pg_assertion.specs.declared.atom.CrashAtom.TheVariants as crash
 use Rattle.pg_assertion.specs.declared.atom.RawAtom.{RawAtom}
 use Rattle.pg_assertion.specs.Formula.{Plain, top, bottom, atom, neg, both, either, implies, AllAtoms, with_atoms}
 use Rattle.pg_assertion.specs.Atom.{raw_of, RawDeclared}
-use Rattle.pg_assertion.specs.Layout.{Sizes, sizes, IsAtom, IsThreadNumber}
+use Rattle.pg_assertion.specs.Layout.{sizes, IsAtom, IsThreadNumber}
 use Rattle.pg_assertion.specs.Expansion.{mentions, named, vectors, constant, fill, conjunction, can_persist, term, expansion_over, expansion, IsAtomOf, value_in}
 use Rattle.pg_outline.specs.declared.fault.OutlineFault.TheVariants.{UnknownThread}
 use Rattle.pg_outline.specs.Outline.{OutlineTable, IsSmall, draft_of}

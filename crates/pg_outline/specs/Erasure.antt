@@ -1,7 +1,8 @@
--- The erasure of a program: the same program without auxiliaries and brackets. Its domain and its locations with their
--- initial values stay, and its registers keep their order.
-use Rattle.std.specs.Prelude.{ℕ, Bool, true, false, List, [], length, map, take}
+-- The erasure of a program: the same program without auxiliaries and brackets. Its version, its domain and its locations with their
+-- initial values and lines stay, and its registers keep their order.
+use Rattle.std.specs.Prelude.{◌≡◌, ℕ, ◌+◌, Bool, true, false, List, [], length, map, take, Some, slice_get}
 use Rattle.std.specs.List.{filter}
+use Rattle.pg_program.specs.declared.name_table.NameKind.{NameKind}
 use Rattle.pg_program.specs.declared.name_table.ScalarKind.{ScalarKind}
 use Rattle.pg_program.specs.declared.name_table.ScalarKind.TheVariants.{Register, Auxiliary}
 use Rattle.pg_program.specs.declared.syntax.Expr.{Expr, fold-Expr, roll-Expr}
@@ -10,7 +11,7 @@ use Rattle.pg_program.specs.declared.syntax.Cond.{Cond}
 use Rattle.pg_program.specs.declared.syntax.Stmt.{Stmt, fold-Stmt, roll-Stmt}
 use Rattle.pg_program.specs.declared.syntax.Act.{Act, fold-Act, roll-Act}
 use Rattle.pg_program.specs.declared.syntax.Act.TheOpen.{Act-F, Stmt-F, Assign, Store, Load, Cas, If, While}
-use Rattle.pg_program.specs.NameTable.{NameTable}
+use Rattle.pg_program.specs.NameTable.{NameTable, Location, is_full, with_name, MayJoin}
 use Rattle.pg_program.specs.Program.{ProgramTable}
 
 -- ---- names
@@ -30,6 +31,16 @@ erased_names names = record names { scalars = registers names.scalars }
 -- the new place of a register: the number of registers that stand before it
 abbrev pub new_place : NameTable → ℕ → ℕ
 new_place names r = length (registers (take r names.scalars))
+
+-- the table with the first n locations alone
+abbrev pub first_locations : ℕ → NameTable → NameTable
+first_locations n names = record names { locations = take n names.locations; scalars = [] }
+
+-- The location x, declared as this behind the locations before it, is again what it was.
+pub record DeclaresAgain (names : NameTable) (x : ℕ) (kind : NameKind) : Type 0 where
+  pub room : is_full kind (first_locations x names) ≡ false
+  pub joins : MayJoin kind (first_locations x names)
+  pub same : (l : Location) → slice_get names.locations x ≡ Some l → with_name l.name kind (first_locations x names) ≡ first_locations (x + 1) names
 
 -- ---- statements, where `place` gives the new place of each register
 

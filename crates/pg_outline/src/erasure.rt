@@ -1,17 +1,17 @@
 //! The erasure of auxiliaries: an outline's program without auxiliaries and brackets.
 
-ghost use Rattle.std.specs.Prelude.{◌≡◌, map, IfOk, OnOk, None, false};
-ghost use Rattle.pg_program.specs.NameTable.{find, is_full, with_name};
+ghost use Rattle.std.specs.Prelude.{◌≡◌, ◌<◌, length, map, IfOk, OnOk, None, false};
+ghost use Rattle.pg_program.specs.NameTable.{find, is_full, with_name, MayJoin, IsNameTable};
 ghost use Rattle.pg_program.specs.Program.{IsProgram};
-ghost use Rattle.pg_outline.specs.Erasure.{erased, erased_names, erased_stmt, erased_act, moved, moved_test, new_place};
+ghost use Rattle.pg_outline.specs.Erasure.{erased, erased_names, erased_stmt, erased_act, moved, moved_test, new_place, DeclaresAgain};
 
 use crate::outline::Outline;
 use pg_program::{Act, Cond, DeclareFault, Expr, NameKind, Names, Program, ProgramFault, Stmt};
 use sqlite_items::{Boxed, Items};
 use std::alloc::{AllocError, Global};
 
-/// The program of an outline without auxiliaries and brackets. The registers keep their order, and each of them has as its
-/// number how many registers stand before it.
+/// The program of an outline without auxiliaries and brackets. Its version and its locations stay, each on its line. The
+/// registers keep their order, and each of them has as its number how many registers stand before it.
 pub fn erase(alloc: Global, o: &Outline) -> Result<Program, AllocError>
     ensures { IfOk result (λ p. p ≡ erased o.now.program) }
 {
@@ -47,14 +47,10 @@ fn built(alloc: Global, names: Names, threads: Vec<Vec<Stmt>>) -> Result<Program
 fn erased_names(alloc: Global, names: &Names) -> Result<Names, AllocError>
     ensures { IfOk result (λ n. n ≡ erased_names names.now) }
 {
-    let mut kept = Names::make(alloc, names.domain());
+    let mut kept = Names::make(alloc, names.domain(), names.version());
     for x in 0..names.locations() {
-        let init = names.init(x);
-        declare(
-            &mut kept,
-            names.location_name(x),
-            NameKind::Location { init },
-        )?;
+        let kind = location_kind(names, x);
+        declare(&mut kept, names.location_name(x), kind)?;
     }
     for r in 0..names.scalars() {
         if let NameKind::Register { owner } = names.kind(r) {
@@ -68,10 +64,25 @@ fn erased_names(alloc: Global, names: &Names) -> Result<Names, AllocError>
     Ok(kept)
 }
 
+/// What a location is declared as: it stands on the line of the one before it, or begins a line.
+fn location_kind(names: &Names, x: u8) -> NameKind
+    requires names { IsNameTable names.now }
+    requires place { x < length names.now.locations }
+    ensures { DeclaresAgain names.now x result }
+{
+    let init = names.init(x);
+    if x > 0 && names.line(x) == names.line(x - 1) {
+        NameKind::LocationWith { init }
+    } else {
+        NameKind::Location { init }
+    }
+}
+
 /// Declares a name that is new, where there is room for it.
 fn declare(names: &mut Names, name: &str, kind: NameKind) -> Result<(), AllocError>
     requires absent { find name.now names.old ≡ None }
     requires room { is_full kind names.old ≡ false }
+    requires join { MayJoin kind names.old }
     ensures { OnOk result (names.new ≡ with_name name.now kind names.old) }
 {
     match names.declare(name, kind) {

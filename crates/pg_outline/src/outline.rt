@@ -3,6 +3,7 @@
 ghost use Rattle.std.specs.Prelude.{◌≡◌, ◌-◌, ◌≤◌, All, [], length, map, slice_index_or};
 ghost use Rattle.pg_assertion.specs.Formula.{plain, AllAtoms};
 ghost use Rattle.pg_assertion.specs.Expansion.{expansion, IsAtomOf};
+ghost use Rattle.pg_program.specs.Limits.{IsDomainSize};
 ghost use Rattle.pg_program.specs.Program.{points, IsProgram};
 ghost use Rattle.pg_assertion.specs.Atom.{CrashDeclared};
 ghost use Rattle.pg_outline.specs.Outline.{Draft, IsSmall};
@@ -172,7 +173,7 @@ fn expanded(
     crash: &Formula<CrashAtom>,
     names: &Names,
 ) -> Result<Formula<ViewAtom>, OutlineFault>
-    requires domain { (2 ≤ names.now.domain) × (names.now.domain ≤ 4) }
+    requires domain { IsDomainSize names.now.domain }
     requires crash { IsSmall (IsAtomOf names.now) (plain crash.now) }
     ensures { Makes plain (expansion names.now (plain crash.now)) (first_of (locations_fault names.now (plain crash.now)) (size_fault names.now (plain crash.now))) result }
 {

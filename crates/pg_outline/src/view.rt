@@ -1,6 +1,7 @@
 //! The formulas of a text, made formulas over the outline's values and threads.
 
 ghost use Rattle.std.specs.Prelude.{◌≡◌, ◌≤◌, map};
+ghost use Rattle.pg_program.specs.Limits.{largest_domain_2, most_threads};
 ghost use Rattle.pg_assertion.specs.Formula.{plain, with_atoms};
 ghost use Rattle.pg_assertion.specs.Atom.{raw_of};
 ghost use Rattle.pg_outline.specs.Fault.{value_fault, thread_fault, atom_fault, crash_atom_fault, in_formula, first_in};
@@ -19,7 +20,7 @@ pub struct Scope {
 
 impl Scope {
     fn value(self, v: u32) -> Result<u8, OutlineFault>
-        requires { self.domain ≤ 4 }
+        requires { self.domain ≤ largest_domain_2 }
         ensures { Makes (λ k. k) v (value_fault self.domain v) result }
     {
         if v < self.domain {
@@ -30,7 +31,7 @@ impl Scope {
     }
 
     fn thread(self, t: u32) -> Result<u8, OutlineFault>
-        requires { self.threads ≤ 4 }
+        requires { self.threads ≤ most_threads }
         ensures { Makes (λ k. k) t (thread_fault self.threads t) result }
     {
         if t >= 1 && t <= u32::from(self.threads) {
@@ -43,7 +44,7 @@ impl Scope {
 
 /// An atom of an assertion.
 fn viewed_atom(scope: Scope, atom: RawAtom) -> Result<ViewAtom, OutlineFault>
-    requires { (scope.domain ≤ 4) × (scope.threads ≤ 4) }
+    requires { (scope.domain ≤ largest_domain_2) × (scope.threads ≤ most_threads) }
     ensures { Makes raw_of atom (atom_fault scope.domain scope.threads atom) result }
 {
     Ok(match atom {
@@ -98,7 +99,7 @@ pub fn viewed(
     scope: Scope,
     f: &Formula<RawAtom>,
 ) -> Result<Formula<ViewAtom>, OutlineFault>
-    requires { (scope.domain ≤ 4) × (scope.threads ≤ 4) }
+    requires { (scope.domain ≤ largest_domain_2) × (scope.threads ≤ most_threads) }
     ensures { Makes (λ g. with_atoms raw_of (plain g)) (plain f.now) (in_formula (atom_fault scope.domain scope.threads) (plain f.now)) result }
 {
     match f {
@@ -130,7 +131,7 @@ fn viewed_thread(
     scope: Scope,
     notes: &[Formula<RawAtom>],
 ) -> Result<Vec<Formula<ViewAtom>>, OutlineFault>
-    requires { (scope.domain ≤ 4) × (scope.threads ≤ 4) }
+    requires { (scope.domain ≤ largest_domain_2) × (scope.threads ≤ most_threads) }
     ensures { Makes (λ fs. map (with_atoms raw_of) (map plain fs.items)) (map plain notes.now) (first_in (in_formula (atom_fault scope.domain scope.threads)) (map plain notes.now)) result }
 {
     let mut viewed_notes = Vec::new(alloc);
@@ -146,7 +147,7 @@ pub fn viewed_threads(
     scope: Scope,
     notes: &[Vec<Formula<RawAtom>>],
 ) -> Result<Vec<Vec<Formula<ViewAtom>>>, OutlineFault>
-    requires { (scope.domain ≤ 4) × (scope.threads ≤ 4) }
+    requires { (scope.domain ≤ largest_domain_2) × (scope.threads ≤ most_threads) }
     ensures { Makes (λ ts. map (map (with_atoms raw_of)) (map (λ t. map plain t.items) ts.items)) (map (λ t. map plain t.items) notes.now) (first_in (first_in (in_formula (atom_fault scope.domain scope.threads))) (map (λ t. map plain t.items) notes.now)) result }
 {
     let mut threads = Vec::new(alloc);
@@ -158,7 +159,7 @@ pub fn viewed_threads(
 
 /// Checks the values of a crash formula.
 pub fn check_crash(scope: Scope, f: &Formula<CrashAtom>) -> Result<(), OutlineFault>
-    requires { scope.domain ≤ 4 }
+    requires { scope.domain ≤ largest_domain_2 }
     ensures { Checks (in_formula (crash_atom_fault scope.domain) (plain f.now)) result }
 {
     match f {

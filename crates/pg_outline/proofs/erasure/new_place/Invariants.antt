@@ -1,5 +1,5 @@
-use Rattle.std.proofs.Common.{◌≡◌, ◌≤◌, take, length}
-use Rattle.pg_outline.specs.Erasure.{registers, new_place}
+use Rattle.std.proofs.Common.{◌≡◌, ◌≤◌}
+use Rattle.pg_outline.specs.Erasure.{new_place}
 use Rattle.pg_outline.proofs.erasure.new_place.Given as goal
 
 -- the registers so far are counted
