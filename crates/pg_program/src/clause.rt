@@ -20,6 +20,15 @@ use crate::syntax::Stmt;
 use crate::words::{numbers_of, outside, reads_many, scalars_of, stands_in, targets};
 use std::alloc::{AllocError, Global};
 
+/// How many values a domain has at least.
+const MIN_DOMAIN: u32 = 2;
+
+/// How many values a domain has at most in version 1 of the language.
+const MAX_DOMAIN: u32 = 4;
+
+/// How many values a domain has at most in version 2.
+const MAX_DOMAIN_2: u32 = 6;
+
 /// The clauses that go through the text.
 #[derive(Clone, Copy)]
 pub enum Clause {
@@ -55,8 +64,12 @@ fn check_domain(names: &Names) -> Result<(), ProgramFault>
     ensures { Finds (domain_fault names.now.version names.now.domain) result }
 {
     let size = names.domain();
-    let largest = if names.version() == 1 { 4 } else { 6 };
-    if (2..=largest).contains(&size) {
+    let largest = if names.version() == 1 {
+        MAX_DOMAIN
+    } else {
+        MAX_DOMAIN_2
+    };
+    if (MIN_DOMAIN..=largest).contains(&size) {
         Ok(())
     } else {
         Err(ProgramFault::DomainSize(size))

@@ -10,6 +10,9 @@ use crate::expr::{append_numbers, append_reads};
 use crate::syntax::{Act, AuxAssign, Cond, Expr, Stmt};
 use std::alloc::{AllocError, Global};
 
+/// How many different names an expression may read, or both sides of a test together.
+const MAX_NAMES: usize = 4;
+
 /// The scalars of a statement outside its bracket.
 pub fn outside(alloc: Global, stmt: &Stmt) -> Result<Vec<u8>, AllocError>
     ensures { IfOk result (λ v. v.items ≡ outside stmt.now) }
@@ -166,7 +169,7 @@ fn is_wide(alloc: Global, expr: &Expr) -> Result<bool, AllocError>
 {
     let mut names = Vec::new(alloc);
     append_reads(expr, &mut names)?;
-    Ok(different(&names) > 4)
+    Ok(different(&names) > MAX_NAMES)
 }
 
 /// Whether both sides of a test together read more than four names.
@@ -176,7 +179,7 @@ fn is_wide_test(alloc: Global, test: &Cond) -> Result<bool, AllocError>
     let mut names = Vec::new(alloc);
     append_reads(&test.left, &mut names)?;
     append_reads(&test.right, &mut names)?;
-    Ok(different(&names) > 4)
+    Ok(different(&names) > MAX_NAMES)
 }
 
 /// Whether a number stands among others.
