@@ -14,7 +14,7 @@ use Rattle.pg_assertion_text.specs.Words.{Item, sign, letter, number, word, loca
 
 -- ---- names
 
-place_within : (w : List ℕ) (ns : List (List ℕ)) (i : ℕ) → place_in w ns ≡ Some i → i < length ns
+pub place_within : (w : List ℕ) (ns : List (List ℕ)) (i : ℕ) → place_in w ns ≡ Some i → i < length ns
 place_within w [] i h = cc
 place_within w (n ∷ ns) i h = by (bytes_eq w n) (place_in w ns) (place_within w ns) i h
   where
