@@ -1,23 +1,23 @@
 -- The axioms hold in every well-formed state.
 use Rattle.std.proofs.Common.{◌≡◌, ℕ, suc, ◌<◌, ◌≤◌, ◌==◌, max, Bool, true, false, cond, ◌&&◌, ◌⊎◌, List, length, get_or, set, inl, inr, refl, sym, ap, ◌∙◌, arith}
-use Rattle.std.proofs.lemmas.Bool.{and_parts, and_from, eqb-true, eq-eqb, leb-true, le-leb, cases_eq}
-use Rattle.std.proofs.lemmas.List.{get_or-set_other}
+use Rattle.std.proofs.lemmas.Bool.{and_parts, and_from, eqb-true, eq-eqb, leb-true, le-leb, cases_eq, cases_lt}
+use Rattle.std.proofs.lemmas.List.{get_or-set_other, get_or_past}
 use Rattle.std.proofs.lemmas.List.Elements.{All-get_or}
 use Rattle.pg_program.specs.Program.{ProgramTable}
-use Rattle.pg_machine.specs.Memory.{Memory, is_at, reaches, last, last_value, last_upto, value_at}
-use Rattle.pg_machine.specs.State.{Views, State, AreViews, coh_of, vpa_of, maxcoh, ordered, committed}
+use Rattle.pg_machine.specs.Memory.{Memory, line_of, is_at, reaches, last, last_value, last_upto, value_at}
+use Rattle.pg_machine.specs.State.{Views, State, AreViews, coh_of, maxcoh, ordered}
 use Rattle.pg_machine.specs.Moves.{Seen, can_read, loaded, load_seen}
 use Rattle.pg_machine.specs.Step.{views_of, seen_by}
 use Rattle.pg_machine.proofs.Scan.{is_at-within}
 use Rattle.pg_machine.proofs.Appended.{last_upto-within}
-use Rattle.pg_machine.proofs.PositionLists.{greatest-above, set-either}
+use Rattle.pg_machine.proofs.PositionLists.{greatest_on-within, greatest_on-above, set-either}
 use Rattle.pg_machine.proofs.Reached.{Reaches, reaches_of, of_reaches, reaches-less, reaches-last, last_upto-max, load-less, load-alone, alone-least}
 use Rattle.pg_machine.proofs.ViewLaws.{coh-at}
 use Rattle.pg_machine.proofs.Moved.{thread-views}
-use Rattle.pg_views.specs.Atom.{shows, is_shown, reads, may_read, may_read_then}
+use Rattle.pg_views.specs.Atom.{shows, is_shown, reads, may_read, may_read_then, committed_to, committed_next}
 use Rattle.pg_views.specs.Axioms.{IsFormedWith, HasOneLastValue, HasOneScalarValue, LastIsShown, PendingMayPersist, NewestReadIsLast, NewestIsOrdered, OrderedIsFenced, ThenWasReadable, LastIsReadThen, ReadIsReadAgain, NewestLoadKeepsThen}
 use Rattle.pg_views.proofs.Below.{some_below-here, shown-at}
-use Rattle.pg_views.proofs.Found.{locations-count}
+use Rattle.pg_views.proofs.Found.{locations-count, lines-count}
 use Rattle.pg_views.proofs.Nested.{shown-within}
 use Rattle.pg_views.proofs.CrashLaw.{found, found-is, value-inside}
 use Rattle.pg_views.proofs.Readable.{newest-alone, may_read-same}
@@ -59,15 +59,15 @@ last-shown m x c n v at is =
 
 pub last_is_shown : LastIsShown
 last_is_shown p s t x v h is = (
-  last-shown s.memory x 0 (committed s x) v refl is,
+  last-shown s.memory x 0 (committed_to s x) v refl is,
   last-shown s.memory x (coh_of (views_of s t) x) (views_of s t).vrn v (coh-at s.memory (views_of s t) (own p s t h) x) is,
-  last-shown s.memory x 0 (max (committed s x) (vpa_of (views_of s t) x)) v refl is,
+  last-shown s.memory x 0 (committed_next s t x) v refl is,
 )
 
 pub pending_may_persist : PendingMayPersist
 pending_may_persist s t x v =
-    shown-within s.memory x 0 (max (committed s x) (vpa_of (views_of s t) x)) 0 (committed s x)
-    (reaches-less s.memory.messages x 0 (committed s x) 0 (max (committed s x) (vpa_of (views_of s t) x)) (omega arith) (omega arith)) v
+    shown-within s.memory x 0 (committed_next s t x) 0 (committed_to s x)
+    (reaches-less s.memory.messages x 0 (committed_to s x) 0 (committed_next s t x) (omega arith) (omega arith)) v
 
 -- ---- a position that shows a value
 
@@ -92,16 +92,21 @@ newest_read_is_last s t x v newest is =
 
 -- ---- covered positions
 
--- what a `flushopt` is ordered after lies between a thread's coherence and ready views and its greatest coherence view
-pub coh-ordered : (w : Views) (x : ℕ) → coh_of w x ≤ ordered w x
-coh-ordered w x = omega arith
+-- what a `flushopt` of x is ordered after lies between a thread's coherence view of x and its greatest one
+coh-ordered : (m : Memory) (w : Views) (x : ℕ) → AreViews m w → length m.lines ≡ length m.initial → coh_of w x ≤ ordered m.lines w (line_of m x)
+coh-ordered m w x h each = elim (cases_lt x (length m.initial)) [
+  | inl inside ↦
+      let above = greatest_on-above m.lines w.coh (line_of m x) x (omega (arith, each, inside)) refl in
+      omega (arith, above)
+  | inr past ↦
+      let size = h.size.coh in
+      let none : coh_of w x ≡ 0 = get_or_past w.coh x 0 (omega (arith, size, past)) in
+      omega (arith, none)
+]
 
-pub ready-ordered : (w : Views) (x : ℕ) → w.vpr ≤ ordered w x
-ready-ordered w x = omega arith
-
-pub ordered-within : (m : Memory) (w : Views) (x : ℕ) → AreViews m w → ordered w x ≤ maxcoh w
-ordered-within m w x h =
-    let a = greatest-above w.coh x in
+ordered-within : (m : Memory) (w : Views) (l : ℕ) → AreViews m w → ordered m.lines w l ≤ maxcoh w
+ordered-within m w l h =
+    let a = greatest_on-within m.lines w.coh l in
     let b = h.ready in
     omega (arith, a, b)
 
@@ -112,16 +117,15 @@ newest_is_ordered p s t x h newest =
     let ms = s.memory.messages in
     let least-is = alone-least ms x (coh_of n.views x) n.views.vrn (last ms x) (coh-at s.memory n.views views x) (newest-alone n x newest) in
     let within = last_upto-within ms x n.views.vrn in
-    let a = coh-ordered n.views x in
-    let b = ready-ordered n.views x in
-    let c = views.read in
-    le-leb (last ms x) (ordered n.views x) (omega (arith, least-is, within, a, b, c))
+    let a = coh-ordered s.memory n.views x views (lines-count p s h.formed) in
+    let b = views.read in
+    le-leb (last ms x) (ordered s.memory.lines n.views (line_of s.memory x)) (omega (arith, least-is, within, a, b))
 
 pub ordered_is_fenced : OrderedIsFenced
 ordered_is_fenced p s t x h is =
     let n = seen_by s t in
-    let a = leb-true (last s.memory.messages x) (ordered n.views x) is in
-    let b = ordered-within s.memory n.views x (own p s t h) in
+    let a = leb-true (last s.memory.messages x) (ordered s.memory.lines n.views (line_of s.memory x)) is in
+    let b = ordered-within s.memory n.views (line_of s.memory x) (own p s t h) in
     le-leb (last s.memory.messages x) (maxcoh n.views) (omega (arith, a, b))
 
 -- ---- loads

@@ -1,10 +1,9 @@
 -- The law of the expansion. Where the expansion is true, the values that a crash leaves in the named locations are those of one of
--- its choices. And for a choice whose values may all persist there is a crash that leaves them, and in each other location the
--- last value.
+-- its choices. And for a choice whose values may all persist, of locations on lines of their own, there is a crash that leaves them.
 use Rattle.std.proofs.Common.{◌≡◌, ℕ, zero, suc, ◌+◌, ◌<◌, ◌≤◌, ◌==◌, Bool, true, false, cond, ◌||◌, List, [], ◌∷◌, map, length, get_or, refl, sym, ap, ◌∙◌, inl, inr, arith}
 use Rattle.std.specs.List.{All, Contains, range_with_len}
 use Rattle.std.proofs.lemmas.Bool.{and_parts, and_from, eq-eqb, eqb-true, true≢false, cases_lt}
-use Rattle.std.proofs.lemmas.List.{length-map, get_or-map, get_or_past}
+use Rattle.std.proofs.lemmas.List.{get_or_past}
 use Rattle.std.proofs.lemmas.List.Elements.{All-nil, All-map, All-weaker, All-get_or, All-from_get_or, All-filter, All-contains, All-contains_itself}
 use Rattle.std.proofs.lemmas.List.FromFn.{length-range_with_len, get_or-range_with_len}
 use Rattle.pg_program.specs.Program.{ProgramTable}
@@ -12,16 +11,17 @@ use Rattle.pg_assertion.specs.declared.atom.CrashAtom.{CrashAtom}
 use Rattle.pg_assertion.specs.Formula.{Plain}
 use Rattle.pg_assertion.specs.Expansion.{mentions, named, vectors, IsChoice, value_in, fill, conjunction, can_persist, term, expansion_over}
 use Rattle.pg_assertion.proofs.ExpansionChoices.{vectors_are_the_choices}
-use Rattle.pg_machine.specs.Memory.{Memory, value_at, last}
-use Rattle.pg_machine.specs.State.{State, committed, IsWellFormed}
+use Rattle.pg_machine.specs.Memory.{Memory, line_of, reaches, value_at, last}
+use Rattle.pg_machine.specs.State.{State, IsWellFormed}
 use Rattle.pg_machine.proofs.Uses.{value-below}
-use Rattle.pg_machine.proofs.Reached.{reaches-last}
-use Rattle.pg_views.specs.Atom.{some_below, shows, atom_holds, may_persist}
+use Rattle.pg_machine.proofs.Reached.{reaches-less, reaches-last}
+use Rattle.pg_views.specs.Atom.{some_below, shows, committed_to, atom_holds, may_persist}
 use Rattle.pg_views.specs.Formula.{holds}
-use Rattle.pg_views.specs.Crash.{survives, IsCrashChoice, values_at, crash_memory}
-use Rattle.pg_views.specs.CrashLaw.{ExpansionIsEnough, ExpansionIsNeeded, ExpansionIsExact, PersistsWhereLeft}
+use Rattle.pg_views.specs.Crash.{cut, IsCrashChoice, values_at, crash_memory}
+use Rattle.pg_views.specs.CrashLaw.{ExpansionIsEnough, NamesLinesApart, ExpansionIsNeeded, ExpansionIsExact, PersistsWhereLeft}
 use Rattle.pg_views.proofs.Below.{shown-at}
-use Rattle.pg_views.proofs.Found.{values_at-length, locations-count}
+use Rattle.pg_views.proofs.Found.{values_at-length, locations-count, lines-count}
+use Rattle.pg_views.proofs.Kept.{AreKept, kept, kept-size, kept-get, kept-is_choice}
 use Rattle.pg_views.proofs.Filled.{Is, Persists, among, graph, graph-keys, graph-agrees, named-inside, named-past, choice-none, choice-persists, conjunction-parts, conjunction-whole, implied, implies-then, term-premise, premise-holds, fill-is, All-unmap}
 
 -- ---- what the expansion says
@@ -85,13 +85,15 @@ named-declared n f =
     let is = get_or-range_with_len 0 n i 0 (omega (arith, size, lt)) in
     omega (arith, size, lt, is)))
 
--- a crash may leave in each location what it leaves
+-- a crash may leave in each location what it leaves: its line is cut at no less than what was committed to it
 left-persists : (s : State) (ps : List ℕ) (x : ℕ) → IsCrashChoice s ps → x < length s.memory.initial → may_persist s x (get_or (crash_memory s ps) x 0) ≡ true
 left-persists s ps x c lt =
     let size = c.size in
-    shown-at s.memory x 0 (committed s x) (get_or (crash_memory s ps) x 0) (get_or ps x 0)
-    (and_from (survives s x (get_or ps x 0)) (value_at s.memory x (get_or ps x 0) == get_or (crash_memory s ps) x 0) (c.positions x lt)
-    (eq-eqb (value_at s.memory x (get_or ps x 0)) (get_or (crash_memory s ps) x 0) (sym (crash_memory-at s ps x (omega (arith, size, lt))))))
+    let p : ℕ = get_or ps x 0 in
+    let reached = reaches-less s.memory.messages x 0 (committed_to s x) 0 (cut s ps (line_of s.memory x)) (omega arith) (omega arith) p (c.positions x lt) in
+    shown-at s.memory x 0 (committed_to s x) (get_or (crash_memory s ps) x 0) p
+    (and_from (reaches s.memory.messages x 0 (committed_to s x) p) (value_at s.memory x p == get_or (crash_memory s ps) x 0) reached
+    (eq-eqb (value_at s.memory x p) (get_or (crash_memory s ps) x 0) (sym (crash_memory-at s ps x (omega (arith, size, lt))))))
 
 pub expansion_is_enough : ExpansionIsEnough
 expansion_is_enough p s f h true-here ps c =
@@ -145,90 +147,101 @@ found-is f (suc n) h = by (f n) refl h (found-is f n)
     by true e k rest = e
     by false e k rest = rest k
 
--- a position that survives, with the value v where one has it
-abbrev pub kept_at : State → ℕ → ℕ → ℕ
-kept_at s x v = cond (may_persist s x v) (found (shows s.memory x 0 (committed s x) v) (suc (length s.memory.messages))) (last s.memory.messages x)
+-- a position at which x may be left alone, with the value v where one has it
+abbrev pub position_of : State → ℕ → ℕ → ℕ
+position_of s x v = cond (may_persist s x v) (found (shows s.memory x 0 (committed_to s x) v) (suc (length s.memory.messages))) (last s.memory.messages x)
 
-kept-shows : (s : State) (x v : ℕ) → may_persist s x v ≡ true → (survives s x (kept_at s x v) ≡ true) × (value_at s.memory x (kept_at s x v) ≡ v)
-kept-shows s x v h =
-    let at : ℕ = found (shows s.memory x 0 (committed s x) v) (suc (length s.memory.messages)) in
-    let parts = and_parts (survives s x at) (value_at s.memory x at == v) (found-is (shows s.memory x 0 (committed s x) v) (suc (length s.memory.messages)) h) in
-    let is : kept_at s x v ≡ at = ap (λ (b : Bool). cond b at (last s.memory.messages x)) h in
-    (ap (survives s x) is ∙ parts.0, ap (value_at s.memory x) is ∙ eqb-true (value_at s.memory x at) v parts.1)
+found-parts : (s : State) (x v : ℕ) → may_persist s x v ≡ true
+    → (reaches s.memory.messages x 0 (committed_to s x) (position_of s x v) ≡ true) × (value_at s.memory x (position_of s x v) ≡ v)
+found-parts s x v h =
+    let at : ℕ = found (shows s.memory x 0 (committed_to s x) v) (suc (length s.memory.messages)) in
+    let parts = and_parts (reaches s.memory.messages x 0 (committed_to s x) at) (value_at s.memory x at == v) (found-is (shows s.memory x 0 (committed_to s x) v) (suc (length s.memory.messages)) h) in
+    let is : position_of s x v ≡ at = ap (λ (b : Bool). cond b at (last s.memory.messages x)) h in
+    (ap (reaches s.memory.messages x 0 (committed_to s x)) is ∙ parts.0, ap (value_at s.memory x) is ∙ eqb-true (value_at s.memory x at) v parts.1)
 
-kept-survives : (s : State) (x v : ℕ) → survives s x (kept_at s x v) ≡ true
-kept-survives s x v = by (may_persist s x v) refl
+position-reached : (s : State) (x v : ℕ) → reaches s.memory.messages x 0 (committed_to s x) (position_of s x v) ≡ true
+position-reached s x v = by (may_persist s x v) refl
   where
-    at : ℕ
-    at = found (shows s.memory x 0 (committed s x) v) (suc (length s.memory.messages))
+    by : (b : Bool) → may_persist s x v ≡ b → reaches s.memory.messages x 0 (committed_to s x) (position_of s x v) ≡ true
+    by true e = (found-parts s x v e).0
+    by false e =
+        ap (λ (b : Bool). reaches s.memory.messages x 0 (committed_to s x) (cond b (found (shows s.memory x 0 (committed_to s x) v) (suc (length s.memory.messages))) (last s.memory.messages x))) e
+        ∙ reaches-last s.memory.messages x 0 (committed_to s x) refl
 
-    by : (b : Bool) → may_persist s x v ≡ b → survives s x (cond b at (last s.memory.messages x)) ≡ true
-    by true e = (and_parts (survives s x at) (value_at s.memory x at == v) (found-is (shows s.memory x 0 (committed s x) v) (suc (length s.memory.messages)) e)).0
-    by false e = reaches-last s.memory.messages x 0 (committed s x) refl
+-- a crash at which the named locations have the values of a choice
+abbrev named_at : State → List (ℕ × ℕ) → ℕ → ℕ
+named_at s w x = position_of s x (value_in w x)
 
--- the positions at which a crash leaves the values of a choice
-abbrev pub kept : State → List (ℕ × ℕ) → List ℕ
-kept s w = map (λ x. kept_at s x (value_in w x)) (range_with_len 0 (length s.memory.initial))
-
-kept-size : (s : State) (w : List (ℕ × ℕ)) → length (kept s w) ≡ length s.memory.initial
-kept-size s w =
-    length-map (range_with_len 0 (length s.memory.initial)) (λ x. kept_at s x (value_in w x)) ∙ length-range_with_len 0 (length s.memory.initial)
-
-kept-get : (s : State) (w : List (ℕ × ℕ)) (x : ℕ) → x < length s.memory.initial → get_or (kept s w) x 0 ≡ kept_at s x (value_in w x)
-kept-get s w x lt =
-    let size = length-range_with_len 0 (length s.memory.initial) in
-    let is : get_or (range_with_len 0 (length s.memory.initial)) x 0 ≡ x =
-    let e = get_or-range_with_len 0 (length s.memory.initial) x 0 lt in omega (arith, e) in
-    get_or-map (λ y. kept_at s y (value_in w y)) (range_with_len 0 (length s.memory.initial)) x 0 0 (omega (arith, size, lt))
-    ∙ ap (λ (y : ℕ). kept_at s y (value_in w y)) is
-
-kept-is_choice : (s : State) (w : List (ℕ × ℕ)) → IsCrashChoice s (kept s w)
-kept-is_choice s w = record {
-  size = kept-size s w;
-  positions = λ x lt. ap (survives s x) (kept-get s w x lt) ∙ kept-survives s x (value_in w x);
+named-kept : (p : ProgramTable) (s : State) (f : Plain CrashAtom) (w : List (ℕ × ℕ)) → IsWellFormed p s → NamesLinesApart p.names f → AreKept s (λ x. mentions x f) (named_at s w)
+named-kept p s f w h far = record {
+  lined = lines-count p s h;
+  reached = λ x e. position-reached s x (value_in w x);
+  apart = λ x y low high a b same.
+      far x y (omega (arith, count, low)) (omega (arith, count, high)) a b
+      (ap (λ (ks : List ℕ). get_or ks x 0) (sym h.memory.lines) ∙ (same ∙ ap (λ (ks : List ℕ). get_or ks y 0) h.memory.lines));
 }
+  where
+    count : length s.memory.initial ≡ length p.names.locations
+    count = locations-count p s h
 
--- it leaves the values of the choice where all of them may persist
+-- it leaves them where all of them may persist
 kept-agrees : (s : State) (n : ℕ) (f : Plain CrashAtom) (w : List (ℕ × ℕ)) → length s.memory.initial ≡ n → map (λ e. e.0) w ≡ named n f → All (Persists s) w
-    → (x : ℕ) → mentions x f ≡ true → value_in w x ≡ get_or (crash_memory s (kept s w)) x 0
+    → (x : ℕ) → mentions x f ≡ true → value_in w x ≡ get_or (crash_memory s (kept s (λ y. mentions y f) (named_at s w))) x 0
 kept-agrees s n f w count keys can x m = elim (cases_lt x n) [
   | inl inside ↦
       let here : x < length s.memory.initial = omega (arith, count, inside) in
-      let size = kept-size s w in
+      let size = kept-size s is (named_at s w) in
       let there : among (map (λ e. e.0) w) x ≡ true = ap (λ (l : List ℕ). among l x) keys ∙ named-inside n f x m inside in
-      let shown = kept-shows s x (value_in w x) (choice-persists s w x can there) in
-      sym (crash_memory-at s (kept s w) x (omega (arith, size, here)) ∙ (ap (value_at s.memory x) (kept-get s w x here) ∙ shown.1))
+      let shown = found-parts s x (value_in w x) (choice-persists s w x can there) in
+      sym (crash_memory-at s (kept s is (named_at s w)) x (omega (arith, size, here)) ∙ (ap (value_at s.memory x) (kept-get s is (named_at s w) x here m) ∙ shown.1))
   | inr past ↦
-      let a = length-crash_memory s (kept s w) in
-      let b = kept-size s w in
+      let a = length-crash_memory s (kept s is (named_at s w)) in
+      let b = kept-size s is (named_at s w) in
       let none : among (map (λ e. e.0) w) x ≡ false = ap (λ (l : List ℕ). among l x) keys ∙ named-past n f x past in
-      choice-none w x none ∙ sym (get_or_past (crash_memory s (kept s w)) x 0 (omega (arith, a, b, count, past)))
+      choice-none w x none ∙ sym (get_or_past (crash_memory s (kept s is (named_at s w))) x 0 (omega (arith, a, b, count, past)))
 ]
+  where
+    is : ℕ → Bool
+    is y = mentions y f
 
 pub expansion_is_needed : ExpansionIsNeeded
-expansion_is_needed p s f h at-crash =
+expansion_is_needed p s f h far at-crash =
     expansion-made s p.names.domain (named n f) f (record {
       each = λ w is can.
-          fill-is s w (crash_memory s (kept s w)) f (kept-agrees s n f w (locations-count p s h) is.locations can)
-          ∙ at-crash (kept s w) (kept-is_choice s w);
+          fill-is s w (crash_memory s (left w)) f (kept-agrees s n f w (locations-count p s h) is.locations can)
+          ∙ at-crash (left w) (kept-is_choice s (λ x. mentions x f) (named_at s w) (named-kept p s f w h far));
     })
   where
     n : ℕ
     n = length p.names.locations
 
+    left : List (ℕ × ℕ) → List ℕ
+    left w = kept s (λ x. mentions x f) (named_at s w)
+
 pub expansion_is_exact : ExpansionIsExact
-expansion_is_exact p s f h = (expansion_is_enough p s f h, expansion_is_needed p s f h)
+expansion_is_exact p s f h far = (expansion_is_enough p s f h, expansion_is_needed p s f h far)
 
 -- ---- what may persist
+
+-- one location is kept
+alone-kept : (p : ProgramTable) (s : State) (x q : ℕ) → IsWellFormed p s → reaches s.memory.messages x 0 (committed_to s x) q ≡ true → AreKept s (λ y. y == x) (λ y. q)
+alone-kept p s x q h reached = record {
+  lined = lines-count p s h;
+  reached = λ y e. ap (λ (z : ℕ). reaches s.memory.messages z 0 (committed_to s z) q) (eqb-true y x e) ∙ reached;
+  apart = λ y z low high a b same. eqb-true y x a ∙ sym (eqb-true z x b);
+}
 
 pub persists_where_left : PersistsWhereLeft
 persists_where_left p s x v h lt = (
   λ can.
-      let w : List (ℕ × ℕ) = (x, v) ∷ [] in
-      let size = kept-size s w in
-      let chosen : value_in w x ≡ v = ap (λ (b : Bool). cond b v 0) (eq-eqb x x refl) in
-      let shown = kept-shows s x (value_in w x) (ap (may_persist s x) chosen ∙ can) in
-      (kept s w, kept-is_choice s w, crash_memory-at s (kept s w) x (omega (arith, size, inside)) ∙ (ap (value_at s.memory x) (kept-get s w x inside) ∙ (shown.1 ∙ chosen))),
+      let q : ℕ = position_of s x v in
+      let shown = found-parts s x v can in
+      let size = kept-size s (λ y. y == x) (λ y. q) in (
+        kept s (λ y. y == x) (λ y. q),
+        kept-is_choice s (λ y. y == x) (λ y. q) (alone-kept p s x q h shown.0),
+        crash_memory-at s (kept s (λ y. y == x) (λ y. q)) x (omega (arith, size, inside))
+            ∙ (ap (value_at s.memory x) (kept-get s (λ y. y == x) (λ y. q) x inside (eq-eqb x x refl)) ∙ shown.1),
+      ),
   λ left. ap (may_persist s x) (sym left.2) ∙ left-persists s left.0 x left.1 inside,
 )
   where

@@ -11,15 +11,15 @@ use Rattle.pg_assertion.specs.Layout.{sizes, IsThreadNumber}
 use Rattle.pg_views.specs.Crash.{values_at}
 use Rattle.pg_views.specs.Parts.{Has}
 
--- what was committed, thread by thread
-pub committed-next : (s : State) (x m t k : ℕ) → t < length s.views → k ≡ t + 1
-    → max (max m (vpc_of (views_of s k) x)) (greatest (drop (t + 1) (map (λ w. vpc_of w x) s.views))) ≡ max m (greatest (drop t (map (λ w. vpc_of w x) s.views)))
-committed-next s x m t k lt e =
-    let of : Views → ℕ = λ (w : Views). vpc_of w x in
+-- what was committed to a line, thread by thread
+pub committed-next : (s : State) (l m t k : ℕ) → t < length s.views → k ≡ t + 1
+    → max (max m (vpc_of (views_of s k) l)) (greatest (drop (t + 1) (map (λ w. vpc_of w l) s.views))) ≡ max m (greatest (drop t (map (λ w. vpc_of w l) s.views)))
+committed-next s l m t k lt e =
+    let of : Views → ℕ = λ (w : Views). vpc_of w l in
     let size = length-map s.views of in
     let place : k - 1 ≡ t = omega (arith, e) in
-    let here : get_or (map of s.views) t 0 ≡ vpc_of (get_or s.views t no_views) x = get_or-map of s.views t no_views 0 lt in
-    let same : vpc_of (views_of s k) x ≡ get_or (map of s.views) t 0 = ap (λ (i : ℕ). vpc_of (get_or s.views i no_views) x) place ∙ sym here in
+    let here : get_or (map of s.views) t 0 ≡ vpc_of (get_or s.views t no_views) l = get_or-map of s.views t no_views 0 lt in
+    let same : vpc_of (views_of s k) l ≡ get_or (map of s.views) t 0 = ap (λ (i : ℕ). vpc_of (get_or s.views i no_views) l) place ∙ sym here in
     ap (λ (n : ℕ). max (max m n) (greatest (drop (t + 1) (map of s.views)))) same ∙ greatest-next (map of s.views) m t (omega (arith, size, lt))
   where
     no_views : Views
@@ -30,9 +30,12 @@ pub values_at-length : (m : Memory) (x : ℕ) (ps : List ℕ) → length (values
 values_at-length m x [] = refl
 values_at-length m x (p ∷ ps) = ap suc (values_at-length m (suc x) ps)
 
--- there is a value of each location
+-- there is a value of each location, and a line
 pub locations-count : (p : ProgramTable) (s : State) → IsWellFormed p s → length s.memory.initial ≡ length p.names.locations
-locations-count p s h = ap length h.memory.initial ∙ length-map p.names.locations (λ e. e.1)
+locations-count p s h = h.memory.initial
+
+pub lines-count : (p : ProgramTable) (s : State) → IsWellFormed p s → length s.memory.lines ≡ length s.memory.initial
+lines-count p s h = ap length h.memory.lines ∙ (length-map p.names.locations (λ l. l.line) ∙ sym h.memory.initial)
 
 -- a thread of the program has its views of each declared location
 pub has_views : (p : ProgramTable) (s : State) (t x : ℕ) → IsWellFormed p s → IsThreadNumber (sizes p.names (length p.threads)) t → x < length p.names.locations → Has s t x
@@ -40,15 +43,10 @@ has_views p s t x h thread inside =
     let count = locations-count p s h in
     let threads = h.threads in
     let last = thread.last in
-    let size = (thread-views p s t h thread.first thread.last).size in
-    let coh = size.0 in
-    let vpa = size.1.0 in
-    let vpc = size.1.1 in
+    let coh = (thread-views p s t h thread.first thread.last).size.coh in
     record {
       first = thread.first;
       last = omega (arith, threads, last);
       location = omega (arith, count, inside);
       coh = omega (arith, count, inside, coh);
-      vpa = omega (arith, count, inside, vpa);
-      vpc = omega (arith, count, inside, vpc);
     }

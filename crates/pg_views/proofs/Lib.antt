@@ -1,6 +1,8 @@
 pub mod Below
 pub mod Found
 pub mod Loads
+pub mod Lines
+pub mod Kept
 pub mod CrashFaults
 pub mod Filled
 pub mod CrashLaw

@@ -1,11 +1,11 @@
 -- Of any two sets of positions that are reached, or of values that are shown, of one location the one contains the other.
-use Rattle.std.proofs.Common.{◌≡◌, ℕ, suc, ◌==◌, max, true, length, inl, inr, refl, sym, ◌∙◌}
+use Rattle.std.proofs.Common.{◌≡◌, ℕ, suc, ◌==◌, true, length, inl, inr, refl, sym, ◌∙◌}
 use Rattle.std.proofs.lemmas.Bool.{and_parts, and_from}
 use Rattle.pg_machine.specs.Memory.{Memory, reaches, value_at}
-use Rattle.pg_machine.specs.State.{State, coh_of, vpa_of, committed}
+use Rattle.pg_machine.specs.State.{State, coh_of}
 use Rattle.pg_machine.specs.Step.{views_of}
 use Rattle.pg_machine.proofs.Reached.{reaches-up, reaches-nested}
-use Rattle.pg_views.specs.Atom.{shows, is_shown, atom_holds}
+use Rattle.pg_views.specs.Atom.{shows, is_shown, committed_to, committed_next, atom_holds}
 use Rattle.pg_views.specs.Laws.{ReachedIsUpSet, ReachedNests, ShownNests, ValueSet, readable, persistent, pending, is_in, ValueSetsNest}
 use Rattle.pg_views.proofs.Below.{some_below-implied}
 
@@ -36,8 +36,8 @@ from s x (pending t) = 0
 
 abbrev upto : State → ℕ → ValueSet → ℕ
 upto s x (readable t) = (views_of s t).vrn
-upto s x persistent = committed s x
-upto s x (pending t) = max (committed s x) (vpa_of (views_of s t) x)
+upto s x persistent = committed_to s x
+upto s x (pending t) = committed_next s t x
 
 set-is : (s : State) (x v : ℕ) (a : ValueSet) → atom_holds s (is_in a x v) ≡ is_shown s.memory x (from s x a) (upto s x a) v
 set-is s x v (readable t) = refl

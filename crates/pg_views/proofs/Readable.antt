@@ -11,7 +11,7 @@ use Rattle.pg_machine.proofs.EveryBelow.{every_below-fails}
 use Rattle.pg_machine.proofs.PositionLists.{set-grows, set-either}
 use Rattle.pg_machine.proofs.ViewLaws.{coh-at, view-loaded}
 use Rattle.pg_views.specs.Atom.{some_below, shows, reads, may_read, reads_newest}
-use Rattle.pg_views.specs.Laws.{NewestLoadKeepsReads, NewestLoadKeepsValues, IsRaised, RaisedReadsLess, RaisesViews, LoadAtCoherenceRaisesNothing}
+use Rattle.pg_views.specs.Laws.{NewestLoadKeepsReads, NewestLoadKeepsValues, IsRaised, RaisedReachesLess, RaisedReadsLess, RaisesViews, LoadAtCoherenceRaisesNothing}
 use Rattle.pg_views.proofs.Below.{some_below-implied, newest-other}
 use Rattle.pg_views.proofs.Nested.{shown-within}
 
@@ -43,20 +43,29 @@ read-below c d n k p le moved = by (p == c) (p == d) refl refl
 can_read-less : (n : Seen) (v : Views) → ((y : ℕ) → coh_of n.views y ≤ coh_of v y) → n.views.vrn ≤ v.vrn → (y q : ℕ) → can_read (record n { views = v }) y q ≡ true → can_read n y q ≡ true
 can_read-less n v coh read = λ y q. reaches-less n.memory.messages y (coh_of n.views y) n.views.vrn (coh_of v y) v.vrn (coh y) read q
 
-may_read-less : (n : Seen) (v : Views) → ((y : ℕ) → coh_of n.views y ≤ coh_of v y) → n.views.vrn ≤ v.vrn → (y k : ℕ) → may_read (record n { views = v }) y k ≡ true → may_read n y k ≡ true
-may_read-less n v coh read = λ y k.
-    shown-within n.memory y (coh_of v y) v.vrn (coh_of n.views y) n.views.vrn (can_read-less n v coh read y) k
+-- and after a load at p
+load-read-less : (n : Seen) (v : Views) → IsRaised n.views v → (x p y q : ℕ) → can_read (loaded (record n { views = v }) x p) y q ≡ true → can_read (loaded n x p) y q ≡ true
+load-read-less n v h x p =
+    can_read-less (loaded n x p) (load_seen v x p) (set-below n.views.coh v.coh x p h.size h.coh)
+    (read-below (coh_of n.views x) (coh_of v x) n.views.vrn v.vrn p h.read (h.moved x))
+
+pub raised_reaches_less : RaisedReachesLess
+raised_reaches_less n v h = (can_read-less n v h.coh h.read, load-read-less n v h)
+
+-- where fewer positions may be read, fewer values may be
+may_read-less : (n : Seen) (v : Views) (y : ℕ) → ((q : ℕ) → can_read (record n { views = v }) y q ≡ true → can_read n y q ≡ true) → (k : ℕ) → may_read (record n { views = v }) y k ≡ true → may_read n y k ≡ true
+may_read-less n v y less = shown-within n.memory y (coh_of v y) v.vrn (coh_of n.views y) n.views.vrn less
 
 pub raised_reads_less : RaisedReadsLess
 raised_reads_less n v h = (
-  may_read-less n v h.coh h.read,
+  λ y. may_read-less n v y (can_read-less n v h.coh h.read y),
   λ x k y l.
       some_below-implied (λ p. reads up x k p && may_read (loaded up x p) y l) (λ p. reads n x k p && may_read (loaded n x p) y l) (suc (length n.memory.messages)) (λ p is.
       let two = and_parts (reads up x k p) (may_read (loaded up x p) y l) is in
       let here = and_parts (can_read up x p) (value_at n.memory x p == k) two.0 in
       and_from (reads n x k p) (may_read (loaded n x p) y l)
       (and_from (can_read n x p) (value_at n.memory x p == k) (can_read-less n v h.coh h.read x p here.0) here.1)
-      (may_read-less (loaded n x p) (load_seen v x p) (set-below n.views.coh v.coh x p h.size h.coh) (read-below (coh_of n.views x) (coh_of v x) n.views.vrn v.vrn p h.read (h.moved x)) y l two.1)),
+      (may_read-less (loaded n x p) (load_seen v x p) y (load-read-less n v h x p y) l two.1)),
 )
   where
     up : Seen
@@ -156,7 +165,7 @@ module _ (n : Seen) (x : ℕ) (h : AreViews n.memory n.views) (inside : x < leng
       ap (load_seen n.views x) e ∙ (load-least n.memory.messages n.views x h.read ∙ ap (λ (p : ℕ). let v : Views = record n.views { coh = set n.views.coh x p } in v) (sym e))
 
   here : x < length n.views.coh
-  here = let size = h.size.0 in omega (arith, size, inside)
+  here = let size = h.size.coh in omega (arith, size, inside)
 
   -- the same location is loaded there again
   top-again : load_seen (load_seen n.views x top) x top ≡ load_seen n.views x top

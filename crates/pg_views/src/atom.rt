@@ -1,6 +1,7 @@
 //! The meaning of each atom, after the sets of positions that it speaks of.
 
 ghost use Rattle.std.specs.Prelude.{◌≡◌, ℕ, ◌<◌, ◌≤◌, length};
+ghost use Rattle.pg_program.specs.NameTable.{line_count};
 ghost use Rattle.pg_program.specs.Program.{ProgramTable};
 ghost use Rattle.pg_assertion.specs.Layout.{sizes, IsAtom};
 ghost use Rattle.pg_machine.specs.State.{IsWellFormed, coh_of, committed};
@@ -100,7 +101,7 @@ fn covers_ordered(s: &State, t: u8, x: u8) -> bool
     requires { Has s.now.state t x }
     ensures { result ≡ covers_ordered (seen_by s.now.state t) x }
 {
-    s.memory().last(x) <= s.coh(t, x).max(s.vpr(t))
+    s.memory().last(x) <= s.lcoh(t, s.line(x)).max(s.vpr(t))
 }
 
 /// Whether a crash may leave a value in a location.
@@ -112,7 +113,7 @@ fn may_persist(s: &State, p: &Program, x: u8, v: u8) -> bool
     let window = Window {
         location: x,
         from: 0,
-        upto: committed(s, p, x),
+        upto: committed(s, p, s.line(x)),
     };
     window.is_shown(s.memory(), v)
 }
@@ -123,23 +124,24 @@ fn may_persist_after_fence(s: &State, p: &Program, t: u8, x: u8, v: u8) -> bool
     requires has { Has s.now.state t x }
     ensures { result ≡ may_persist_after_fence s.now.state t x v }
 {
+    let line = s.line(x);
     let window = Window {
         location: x,
         from: 0,
-        upto: committed(s, p, x).max(s.vpa(t, x)),
+        upto: committed(s, p, line).max(s.vpa(t, line)),
     };
     window.is_shown(s.memory(), v)
 }
 
-/// What was committed to a location: the greatest committed view of it of all threads.
-pub fn committed(s: &State, p: &Program, x: u8) -> u32
+/// What was committed to a line: the greatest committed view of it of all threads.
+pub fn committed(s: &State, p: &Program, line: u8) -> u32
     requires formed { IsWellFormed p.now s.now.state }
-    requires location { x < length s.now.state.memory.initial }
-    ensures { result ≡ committed s.now.state x }
+    requires line { line < line_count s.now.state.memory.lines }
+    ensures { result ≡ committed s.now.state line }
 {
     let mut most: u32 = 0;
     for t in 0..p.threads() {
-        most = most.max(s.vpc(t + 1, x));
+        most = most.max(s.vpc(t + 1, line));
     }
     most
 }

@@ -1,8 +1,9 @@
 //! Crashes: what a crash leaves of the memory.
 
 ghost use Rattle.std.specs.Prelude.{◌≡◌, ℕ, ◌<◌, ◌≤◌, ◌^◌, ◌⊎◌, true, length, slice_index, MatchOption, IfOk, IfErr};
+ghost use Rattle.pg_program.specs.NameTable.{line_count};
 ghost use Rattle.pg_machine.specs.State.{IsWellFormed};
-ghost use Rattle.pg_views.specs.Crash.{survives, IsCrashChoice, crash_memory};
+ghost use Rattle.pg_views.specs.Crash.{cut, survives, IsCrashChoice, crash_memory};
 ghost use Rattle.pg_views.specs.Fault.{PositionFault, IsCrashFault};
 
 use crate::atom::committed;
@@ -36,8 +37,8 @@ impl Nvm {
     }
 }
 
-/// The memory that a crash leaves which takes each location at one of its positions, in the order of the locations. The first
-/// position that a crash can't take is refused.
+/// The memory that a crash leaves which takes each location at one of its positions, in the order of the locations. The lines are
+/// cut by all of the positions. The first position that such a crash can't take is refused.
 pub fn crash(alloc: Global, s: &State, p: &Program, at: &[u32]) -> Result<Nvm, CrashFault>
     requires formed { IsWellFormed p.now s.now.state }
     requires few { length at.now < 2 ^ 32 }
@@ -70,26 +71,46 @@ fn first_fault(s: &State, p: &Program, at: &[u32]) -> Option<CrashFault>
         });
     }
     for x in 0..locations {
-        if let Some(fault) = position_fault(s, p, x, at[usize::from(x)]) {
+        if let Some(fault) = position_fault(s, p, at, x) {
             return Some(fault);
         }
     }
     None
 }
 
-/// Why a crash can't take a location at a position.
-fn position_fault(s: &State, p: &Program, x: u8, position: u32) -> Option<CrashFault>
+/// Why a crash that leaves the locations at these positions can't leave one of them so.
+fn position_fault(s: &State, p: &Program, at: &[u32], x: u8) -> Option<CrashFault>
     requires formed { IsWellFormed p.now s.now.state }
+    requires each { length at.now ≡ length s.now.state.memory.initial }
     requires location { x < length s.now.state.memory.initial }
-    ensures { MatchOption result (survives s.now.state x position ≡ true) (λ f. PositionFault s.now.state x position f) }
+    ensures { MatchOption result (survives s.now.state at.now x ≡ true) (λ f. PositionFault s.now.state at.now x f) }
 {
+    let position = at[usize::from(x)];
     if !s.memory().is_at(x, position) {
         return Some(CrashFault::NotAPosition { x, position });
     }
-    match s.memory().hiding(x, position, committed(s, p, x)) {
+    let bound = cut(s, p, at, s.line(x));
+    match s.memory().hiding(x, position, bound) {
         Some(later) => Some(CrashFault::Overwritten { x, position, later }),
         None => None,
     }
+}
+
+/// Where a crash that leaves the locations at these positions cuts a line: at the greatest of them that stand on it, and at no
+/// less than what was committed to it.
+fn cut(s: &State, p: &Program, at: &[u32], line: u8) -> u32
+    requires formed { IsWellFormed p.now s.now.state }
+    requires each { length at.now ≡ length s.now.state.memory.initial }
+    requires line { line < line_count s.now.state.memory.lines }
+    ensures { result ≡ cut s.now.state at.now line }
+{
+    let mut most = committed(s, p, line);
+    for x in 0..p.names().locations() {
+        if s.line(x) == line {
+            most = most.max(at[usize::from(x)]);
+        }
+    }
+    most
 }
 
 /// The memory that a crash choice leaves.

@@ -12,7 +12,8 @@ pub enum CrashFault {
     /// The position is none of the location's.
     #[error("{position} is not a position of location {x}")]
     NotAPosition { x: u8, position: u32 },
-    /// A message to the location after the position was committed. The least such position is kept.
+    /// A message to the location after the position stands before the cut of its line, which all of the positions give: at what was
+    /// committed to the line, and at each position of a location on it. The least such position is kept.
     #[error("position {position} of location {x} is overwritten at {later}")]
     Overwritten { x: u8, position: u32, later: u32 },
     #[error("out of memory")]

@@ -2,19 +2,20 @@
 
 ghost use Rattle.pg_views.specs.CrashLaw.{ExpansionIsEnough, ExpansionIsNeeded, ExpansionIsExact, PersistsWhereLeft};
 ghost use Rattle.pg_views.specs.Axioms.{HasOneLastValue, HasOneScalarValue, LastIsShown, PendingMayPersist, NewestReadIsLast, NewestIsOrdered, OrderedIsFenced, ThenWasReadable, LastIsReadThen, ReadIsReadAgain, NewestLoadKeepsThen};
-ghost use Rattle.pg_views.specs.Laws.{ReachedIsUpSet, ReachedNests, ShownNests, ValueSetsNest, NewestLoadKeepsReads, NewestLoadKeepsValues, RaisesViews, RaisedReadsLess, LoadAtCoherenceRaisesNothing};
+ghost use Rattle.pg_views.specs.Laws.{ReachedIsUpSet, ReachedNests, ShownNests, ValueSetsNest, NewestLoadKeepsReads, NewestLoadKeepsValues, RaisesViews, RaisedReachesLess, RaisedReadsLess, LoadAtCoherenceRaisesNothing};
 
 /// Where the expansion of a crash formula is true in a well-formed state, the crash formula holds at a crash.
 pub fn the_expansion_is_enough()
     ensures { ExpansionIsEnough }
 {}
 
-/// Where a crash formula holds at a crash in a well-formed state, its expansion is true.
+/// Where a crash formula holds at a crash in a well-formed state, and names no two locations of one line, its expansion is true.
 pub fn the_expansion_is_needed()
     ensures { ExpansionIsNeeded }
 {}
 
-/// In a well-formed state the expansion of a crash formula is true exactly where the crash formula holds at a crash.
+/// In a well-formed state the expansion of a crash formula that names no two locations of one line is true exactly where the
+/// crash formula holds at a crash.
 pub fn the_expansion_is_exact()
     ensures { ExpansionIsExact }
 {}
@@ -50,10 +51,11 @@ pub fn loading_the_newest_keeps_what_may_be_read()
     ensures values { NewestLoadKeepsValues }
 {}
 
-/// Views whose read view, or whose coherence view and read view, are raised show less: what a thread may read only shrinks, and
-/// so does what it may read after a load.
+/// Views whose read view, or whose coherence view and read view, are raised show less: the positions at which a thread may read
+/// only shrink, and so do the values that it may read, those before and those after a load.
 pub fn raised_views_read_less()
     ensures raises { RaisesViews }
+    ensures positions { RaisedReachesLess }
     ensures less { RaisedReadsLess }
 {}
 
