@@ -1,6 +1,6 @@
-use Rattle.std.proofs.Common.{ℕ, ◌<◌, List, [], ◌∷◌, ◌++◌, take, get_or, sym, ap, ◌∙◌, arith}
+use Rattle.std.proofs.Common.{◌<◌, get_or, ◌∙◌, arith}
 use Rattle.pg_program.specs.NameTable.{Location, initial}
-use Rattle.pg_machine.proofs.Made.{number_at, take-next}
+use Rattle.pg_machine.proofs.Made.{number_at, next_number}
 use Rattle.pg_machine.proofs.memory.declared_values.Goals as goal
 
 pub overflow_cast-init : goal.overflow_cast-init
@@ -13,9 +13,5 @@ overflow_cast-init c =
 
 pub loop-location-preserved : goal.loop-location-preserved
 loop-location-preserved c =
-    let x = c.loop-location.location in
-    let found = number_at (λ (l : Location). l.init) c.args.names.now.locations x c.init.result c.init.ensures in
-    let vs = initial c.args.names.now in
     c.in_ok-push.ensures.items
-    ∙ (ap (λ (l : List ℕ). l ++ c.init.result ∷ []) c.loop-location.invariant
-    ∙ (ap (λ (v : ℕ). take x vs ++ v ∷ []) found.is ∙ sym (take-next vs x found.inside)))
+    ∙ next_number (λ (l : Location). l.init) c.args.names.now.locations c.loop-location.values.items c.loop-location.location c.init.result c.loop-location.invariant c.init.ensures
