@@ -1,10 +1,8 @@
 -- Statements with their blocks, and bodies of threads, that are read are in the grammar.
-use Rattle.std.proofs.Common.{◌≡◌, ℕ, zero, suc, ◌+◌, Bool, true, false, Ok, Err, Some, None, List, [], ◌∷◌, ◌++◌, length, refl, ap, sym, ◌∙◌, subst, arith, append_assoc, length-append}
+use Rattle.std.proofs.Common.{◌≡◌, ℕ, zero, suc, ◌+◌, Bool, true, false, Ok, Some, None, List, [], ◌∷◌, ◌++◌, length, refl, ap, sym, ◌∙◌, subst, arith, append_assoc, length-append}
 use Rattle.std.proofs.lemmas.List.{append-nil}
-use Rattle.std.specs.Prelude.{Option, Result}
-use Rattle.std.specs.Result.{result_unwrap_or}
+use Rattle.std.specs.Prelude.{Option}
 use Rattle.pg_lex.specs.declared.token.Sign.TheVariants as s
-use Rattle.pg_lex.specs.declared.fault.TextFault.{TextFault}
 use Rattle.pg_lex.specs.Lex.{Cursor, Lexeme, token, after}
 use Rattle.pg_program.specs.NameTable.{NameTable}
 use Rattle.pg_program.specs.declared.syntax.Stmt.{Stmt, roll-Stmt}
@@ -14,7 +12,6 @@ use Rattle.pg_assertion.specs.declared.atom.RawAtom.{RawAtom}
 use Rattle.pg_assertion.specs.Formula.{Plain}
 use Rattle.pg_assertion_text.specs.Words.{Stands, sign, word}
 use Rattle.pg_assertion_text.specs.Input.{Input, Outcome, Parser, pure, peek, next, expect, is_sign}
-use Rattle.pg_assertion_text.specs.Parsing.{placed}
 use Rattle.pg_assertion_text.proofs.Steps.{ok_same, bind_then, next_found, peek_found, is_sign_found, expect_found}
 use Rattle.pg_assertion_text.proofs.Whole.{placed_then}
 use Rattle.pg_program_text.specs.declared.keyword.Keyword.{Keyword}
