@@ -11,6 +11,8 @@ mod assertions;
 #[cfg(test)]
 mod bodies;
 #[cfg(test)]
+mod lines;
+#[cfg(test)]
 mod meanings;
 #[cfg(test)]
 mod names;

@@ -87,10 +87,10 @@ fn held(alloc: Global, s: &State, p: &Program) -> Result<Vec<u8>, Fail>
 }
 
 /// Passes where after these steps just these atoms hold.
-fn hold_behind(alloc: Global, p: &Program, lines: &[Line], atoms: &str) -> Result<(), Fail> {
+pub fn hold_behind(alloc: Global, p: &Program, lines: &[Line], atoms: &str) -> Result<(), Fail> {
     let state = behind(alloc, p, lines)?;
     let found = held(alloc, &state, p)?;
-    agree(found.as_slice(), atoms.as_bytes(), MESSAGE)
+    agree(found.as_slice(), atoms.as_bytes(), b"the steps")
 }
 
 #[test]
@@ -137,7 +137,7 @@ static REFUSED: [(&[u32], CrashFault); 5] = [
 const FLUSHES: [Line; 2] = [(1, None, None), (1, None, None)];
 
 /// What a crash at these positions leaves after these steps, or its fault.
-fn crashed(
+pub fn crashed(
     alloc: Global,
     p: &Program,
     lines: &[Line],
