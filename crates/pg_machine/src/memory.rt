@@ -90,7 +90,7 @@ impl Memory {
     }
 
     /// The cache line of each location.
-    pub fn lines(&self) -> &[u8]
+    pub fn location_lines(&self) -> &[u8]
         ensures lines { result.now ≡ self.now.memory.lines }
         ensures each { length result.now ≡ length self.now.memory.initial }
     {

@@ -128,14 +128,6 @@ impl State {
         self.memory.line(location)
     }
 
-    /// The cache line of each location.
-    pub fn lines(&self) -> &[u8]
-        ensures lines { result.now ≡ self.now.state.memory.lines }
-        ensures each { length result.now ≡ length self.now.state.memory.initial }
-    {
-        self.memory.lines()
-    }
-
     /// The coherence view of a thread, numbered from 1, of a location, numbered from 0: a position, 0 or counted from 1.
     pub fn coh(&self, thread: u8, location: u8) -> u32
         requires thread { (1 ≤ thread) × (thread ≤ length self.now.state.views) }
@@ -158,7 +150,7 @@ impl State {
         requires { (1 ≤ thread) × (thread ≤ length self.now.state.views) }
         ensures { result ≡ lcoh self.now.state.memory.lines (views_of self.now.state thread) line }
     {
-        self.seen(thread).lcoh(self.memory.lines(), line)
+        self.seen(thread).lcoh(self.memory.location_lines(), line)
     }
 
     /// The read view of a thread, numbered from 1: a position.
