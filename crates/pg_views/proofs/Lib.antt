@@ -9,3 +9,5 @@ pub mod CrashLaw
 pub mod Nested
 pub mod Readable
 pub mod Axioms
+pub mod OwnLines
+pub mod Acts

@@ -7,6 +7,7 @@ use Rattle.pg_program.specs.declared.syntax.Stmt.{Stmt}
 use Rattle.pg_program.specs.declared.syntax.Act.{Act}
 use Rattle.pg_program.specs.declared.syntax.Act.TheOpen.{Act-F, Flush, Flushopt}
 use Rattle.pg_program.specs.declared.point.Step.{Step}
+use Rattle.pg_program.specs.NameTable.{IsNameTable}
 use Rattle.pg_program.specs.Graph.{step_of}
 use Rattle.pg_program.specs.Program.{ProgramTable, IsProgram, stmt_at, steps_at}
 use Rattle.pg_assertion.specs.declared.atom.ViewAtom.{ViewAtom}
@@ -94,4 +95,4 @@ LinesOfTheirOwnAgree = (p : ProgramTable) (s : State) → IsProgram p → IsWell
 
 -- And in a well-formed state of a program of version 1 each location has a line of its own.
 abbrev pub Version1HasOwnLines : Type 0
-Version1HasOwnLines = (p : ProgramTable) (s : State) → p.names.version ≡ 1 → IsWellFormed p s → HasOwnLines s
+Version1HasOwnLines = (p : ProgramTable) (s : State) → IsNameTable p.names → p.names.version ≡ 1 → IsWellFormed p s → HasOwnLines s

@@ -2,6 +2,7 @@
 
 ghost use Rattle.pg_views.specs.CrashLaw.{ExpansionIsEnough, ExpansionIsNeeded, ExpansionIsExact, PersistsWhereLeft};
 ghost use Rattle.pg_views.specs.Axioms.{HasOneLastValue, HasOneScalarValue, LastIsShown, PendingMayPersist, NewestReadIsLast, NewestIsOrdered, OrderedIsFenced, ThenWasReadable, LastIsReadThen, ReadIsReadAgain, NewestLoadKeepsThen};
+ghost use Rattle.pg_views.specs.Version1.{LinesOfTheirOwnAgree, Version1HasOwnLines};
 ghost use Rattle.pg_views.specs.Laws.{ReachedIsUpSet, ReachedNests, ShownNests, ValueSetsNest, NewestLoadKeepsReads, NewestLoadKeepsValues, RaisesViews, RaisedReachesLess, RaisedReadsLess, LoadAtCoherenceRaisesNothing};
 
 /// Where the expansion of a crash formula is true in a well-formed state, the crash formula holds at a crash.
@@ -103,4 +104,11 @@ pub fn what_may_be_read_then()
     ensures again { ReadIsReadAgain }
     ensures last { LastIsReadThen }
     ensures newest { NewestLoadKeepsThen }
+{}
+
+/// Where each location has a cache line of its own, steps, crashes and atoms are those of version 1; and in a well-formed state
+/// of a program of version 1 each location has one.
+pub fn a_line_for_each_location_is_version_1()
+    ensures agree { LinesOfTheirOwnAgree }
+    ensures own { Version1HasOwnLines }
 {}

@@ -14,6 +14,7 @@ mod crashes;
 mod fault;
 mod formula;
 pub mod laws;
+mod valuation;
 mod window;
 
 pub use atom::holds_atom;
@@ -21,3 +22,4 @@ pub use crashes::{Nvm, crash};
 pub use fault::CrashFault;
 pub use formula::{holds, holds_crash};
 pub use pg_machine::{Event, MAX_MESSAGES, State, StepFault};
+pub use valuation::holds_step_atom;
