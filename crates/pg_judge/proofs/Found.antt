@@ -1,7 +1,6 @@
 -- An outline whose parts are of the first form has a path.
-use Rattle.std.proofs.Common.{◌≡◌, ℕ, ◌+◌, ◌<◌, ◌≤◌, Bool, true, false, cond, nat_lt, if◌then◌else◌, List, [], ◌∷◌, length, map, get_or, Vec, Global, Option, Some, None, IsSome, unwrap_or, refl, sym, ap, subst, ◌∙◌, arith}
+use Rattle.std.proofs.Common.{◌≡◌, ℕ, ◌+◌, ◌≤◌, Bool, true, false, cond, List, [], ◌∷◌, length, map, get_or, Vec, Global, Option, Some, None, IsSome, unwrap_or, refl, sym, ap, subst, ◌∙◌, arith}
 use Rattle.std.specs.List.{All}
-use Rattle.std.proofs.lemmas.Bool.{ltb-true}
 use Rattle.std.proofs.lemmas.List.{length-map}
 use Rattle.std.proofs.lemmas.Simd.{map-map}
 use Rattle.std.proofs.lemmas.List.Elements.{All-nil, All-cons, All-head, All-tail}
@@ -19,9 +18,8 @@ use Rattle.pg_program.specs.Program.{ProgramTable}
 use Rattle.pg_program.specs.Straight.{straight}
 use Rattle.pg_program.proofs.StraightLemmas.{straight-size}
 use Rattle.pg_machine.proofs.StoreSteps.{one_thread}
-use Rattle.pg_outline.specs.declared.fault.OutlineFault.TheVariants.{ValueOutOfDomain}
 use Rattle.pg_outline.specs.Outline.{OutlineTable, IsSmall, draft_of}
-use Rattle.pg_outline.specs.Fault.{Fault, first_of, first_in, in_formula, atom_fault, crash_atom_fault, value_fault, locations_fault, size_fault, numbers_fault}
+use Rattle.pg_outline.specs.Fault.{first_of, first_in, in_formula, atom_fault, crash_atom_fault, locations_fault, size_fault, numbers_fault}
 use Rattle.pg_outline.specs.Made.{IsOutline}
 use Rattle.pg_outline.proofs.Parts.{both_none, value_inside}
 use Rattle.pg_judge.specs.declared.outline.PathLit.{PathLit}

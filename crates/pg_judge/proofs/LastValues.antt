@@ -67,8 +67,8 @@ values-list [] = refl
 values-list (v ∷ l) = ap (λ (r : List ℕ). v ∷ r) (values-list l)
 
 -- without messages they are the initial values
-pub last_values-fresh : (l : List ℕ) → last_values (record { initial = l; messages = [] }) ≡ l
-last_values-fresh l = values-list l
+pub last_values-fresh : (l on : List ℕ) → last_values (record { initial = l; lines = on; messages = [] }) ≡ l
+last_values-fresh l on = values-list l
 
 -- a store to a location changes its last value alone
 pub last_values-appended : (m : Memory) (st : ℕ × ℕ) → st.0 < length m.initial → set (last_values m) st.0 st.1 ≡ last_values (message_appended m st)

@@ -4,7 +4,7 @@ use Rattle.std.specs.List.{All}
 use Rattle.std.proofs.lemmas.List.{length-map}
 use Rattle.std.proofs.lemmas.List.Elements.{All-same, All-weaker}
 use Rattle.pg_program.specs.declared.syntax.Stmt.{Stmt}
-use Rattle.pg_program.specs.NameTable.{NameTable, initial}
+use Rattle.pg_program.specs.NameTable.{Location, NameTable, initial}
 use Rattle.pg_program.specs.Program.{ProgramTable}
 use Rattle.pg_program.specs.Straight.{straight}
 use Rattle.pg_judge.specs.declared.outline.PathLit.{PathLit}
@@ -29,7 +29,7 @@ lits : (p : Path) (names : NameTable) → p.domain ≡ names.domain → p.initia
 lits p names domain places ls all =
     All-weaker (IsWithin names) (IsLit p)
     (λ l is.
-    let long = length-map names.locations (λ (x : List ℕ × ℕ). x.1) in
+    let long = length-map names.locations (λ (k : Location). k.init) in
     let same = ap length places in
     (omega (arith, long, same, is.location), omega (arith, domain, is.value)))
     ls all

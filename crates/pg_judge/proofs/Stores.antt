@@ -2,6 +2,7 @@
 use Rattle.std.proofs.Common.{◌≡◌, ◌∙◌, sym, ap, refl, ℕ, zero, suc, ◌+◌, ◌<◌, ◌≤◌, List, [], ◌∷◌, ◌++◌, length, map, take, get_or, Option, Some, None, option_map, option_and_then, unwrap_or, slice_get, is_some, IsSome, ◌&&◌, arith}
 use Rattle.std.specs.List.{list_all}
 use Rattle.pg_program.specs.declared.syntax.Stmt.{Stmt}
+use Rattle.pg_program.specs.NameTable.{Location}
 use Rattle.pg_program.specs.Block.{block}
 use Rattle.pg_program.specs.Graph.{size, statements}
 use Rattle.pg_program.specs.Program.{ProgramTable, IsProgram}
@@ -70,12 +71,12 @@ slice_get_within (x ∷ xs) zero h e = cc
 slice_get_within (x ∷ xs) (suc k) h e = slice_get_within xs k (omega arith) e
 
 -- one initial value more
-pub initial_more : (ls : List (List ℕ × ℕ)) (x v : ℕ) → option_map (λ e. e.1) (slice_get ls x) ≡ Some v → take (x + 1) (map (λ e. e.1) ls) ≡ take x (map (λ e. e.1) ls) ++ v ∷ []
+pub initial_more : (ls : List Location) (x v : ℕ) → option_map (λ l. l.init) (slice_get ls x) ≡ Some v → take (x + 1) (map (λ l. l.init) ls) ≡ take x (map (λ l. l.init) ls) ++ v ∷ []
 initial_more [] x v h = cc
-initial_more (l ∷ ls) zero v h = let same : l.1 ≡ v = cc in ap (λ (y : ℕ). y ∷ []) same
+initial_more (l ∷ ls) zero v h = let same : l.init ≡ v = cc in ap (λ (y : ℕ). y ∷ []) same
 initial_more (l ∷ ls) (suc x) v h =
     let e : suc x + 1 ≡ suc (x + 1) = omega arith in
-    ap (λ (n : ℕ). take n (map (λ (e : List ℕ × ℕ). e.1) (l ∷ ls))) e ∙ ap (λ (r : List ℕ). l.1 ∷ r) (initial_more ls x v h)
+    ap (λ (n : ℕ). take n (map (λ (k : Location). k.init) (l ∷ ls))) e ∙ ap (λ (r : List ℕ). l.init ∷ r) (initial_more ls x v h)
 
 -- ---- whether a program is straight
 
