@@ -1,18 +1,19 @@
 //! The atoms that hold in states of a message that is passed, and what crashes leave of them.
 
-ghost use Rattle.std.specs.Prelude.{◌≡◌, length, IfOk};
+ghost use Rattle.std.specs.Prelude.{◌≡◌, ◌<◌, length, IfOk};
 ghost use Rattle.pg_assertion.specs.Formula.{plain, AllAtoms};
 ghost use Rattle.pg_assertion.specs.Layout.{sizes};
 ghost use Rattle.pg_machine.specs.State.{IsWellFormed};
+ghost use Rattle.pg_machine.specs.Step.{HasThread};
 ghost use Rattle.pg_views.specs.Formula.{IsCrashAtom};
 
 use crate::steps::{Line, behind};
 use crate::texts::{agree, on};
-use pg_assertion::{CrashAtom, Formula, Layout};
+use pg_assertion::{CrashAtom, Formula, Layout, StepAtom};
 use pg_assertion_text::print_formula;
-use pg_machine::State;
+use pg_machine::{Event, State};
 use pg_program::Program;
-use pg_views::{CrashFault, Nvm, crash, holds, holds_crash};
+use pg_views::{CrashFault, Nvm, crash, holds, holds_crash, holds_step_atom};
 use std::alloc::Global;
 use std::test::Fail;
 
@@ -99,6 +100,96 @@ fn atoms_hold(rt: HostRuntime) -> Result<(), Fail> {
     on(alloc, MESSAGE, |o| {
         for (lines, atoms) in STATES {
             hold_behind(alloc, o.program(), lines, atoms)?;
+        }
+        Ok(())
+    })
+}
+
+/// A cas of each outcome, a test, and a store of an expression.
+const JUDGED: &[u8] =
+    b"pierogi 1; values 3; location x = 0; register a of 1; thread 1 { [true] a := cas(x, 0, 2); [true] a := cas(x, 2 + 2, 1); [true] if a = 2 { [true] x := a + 2; } [true] } thread 2 { [true] }";
+
+/// The first cas succeeds, the second one reads the new value and fails, the test holds, and the sum is stored.
+const CHANGES: [Line; 4] = [
+    (1, None, None),
+    (1, Some(1), None),
+    (1, None, None),
+    (1, None, None),
+];
+
+/// The atoms of each of these steps beside those of its two sides: the value that it stores or assigns, that which a cas
+/// expects, whether a cas succeeds, and whether a test holds.
+static CHANGED: [&str; 4] = [" K(2) E(0) S", " K(1) E(1)", " T", " K(1)"];
+
+/// The values that a step may store and expect.
+const STORED: [&str; 3] = [" K(0)", " K(1)", " K(2)"];
+
+const EXPECTED: [&str; 3] = [" E(0)", " E(1)", " E(2)"];
+
+/// A step: the states before it and after it, and its event.
+struct Change {
+    before: State,
+    after: State,
+    event: Event,
+}
+
+/// The step after so many of the changes.
+fn change(alloc: Global, p: &Program, count: usize) -> Result<Change, Fail>
+    requires { count < 4 }
+    ensures { IfOk result (λ c. IsWellFormed p.now c.before.state × IsWellFormed p.now c.after.state × HasThread p.now c.event) }
+{
+    let (thread, choice, _) = CHANGES[count];
+    let before = behind(alloc, p, &CHANGES[..count])?;
+    let after = behind(alloc, p, &CHANGES[..count + 1])?;
+    if thread < 1 || thread > u32::from(p.threads()) {
+        return Err(Fail::new("there is no such thread"));
+    }
+    Ok(Change {
+        before,
+        after,
+        event: Event { thread, choice },
+    })
+}
+
+/// The atoms that hold of the step after so many of the changes, beside those of its sides, each after a blank.
+fn atoms_of_change(alloc: Global, p: &Program, count: usize) -> Result<String, Fail>
+    requires { count < 4 }
+{
+    if p.names().domain() != 3 {
+        return Err(Fail::new("the program has another domain"));
+    }
+    let Change {
+        before,
+        after,
+        event,
+    } = change(alloc, p, count)?;
+    let mut text = String::new(alloc);
+    for v in 0..3 {
+        if holds_step_atom(p, event, &before, &after, &StepAtom::Value { v }) {
+            text.push_str(STORED[usize::from(v)])?;
+        }
+    }
+    for v in 0..3 {
+        if holds_step_atom(p, event, &before, &after, &StepAtom::Expected { v }) {
+            text.push_str(EXPECTED[usize::from(v)])?;
+        }
+    }
+    if holds_step_atom(p, event, &before, &after, &StepAtom::Success) {
+        text.push_str(" S")?;
+    }
+    if holds_step_atom(p, event, &before, &after, &StepAtom::Taken) {
+        text.push_str(" T")?;
+    }
+    Ok(text)
+}
+
+#[test]
+fn steps_have_their_atoms(rt: HostRuntime) -> Result<(), Fail> {
+    let alloc = rt.alloc();
+    on(alloc, JUDGED, |o| {
+        for (count, atoms) in CHANGED.iter().enumerate() {
+            let found = atoms_of_change(alloc, o.program(), count)?;
+            agree(found.as_str(), *atoms, JUDGED)?;
         }
         Ok(())
     })
