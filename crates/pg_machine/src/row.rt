@@ -180,7 +180,10 @@ fn move_views(act: &Act, domain: u32, memory: &Memory, views: &mut Views, scalar
         Act::Mfence => views.mfence(),
         Act::Sfence => views.sfence(),
         Act::Flush { location } => views.flush(memory.line(*location)),
-        Act::Flushopt { location } => views.flushopt(memory.location_lines(), memory.line(*location)),
+        Act::Flushopt { location } => views.flushopt(
+            memory.location_lines(),
+            memory.line(*location),
+        ),
         _ => {}
     }
 }
