@@ -11,3 +11,6 @@ pub mod Readable
 pub mod Axioms
 pub mod OwnLines
 pub mod Acts
+pub use Rattle.pg_machine.proofs.Appended
+pub use Rattle.pg_machine.proofs.StoreSteps
+pub use Rattle.pg_machine.proofs.WellFormed

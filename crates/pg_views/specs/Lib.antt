@@ -14,3 +14,4 @@ pub use Rattle.pg_machine.specs.Memory
 pub use Rattle.pg_machine.specs.State
 pub use Rattle.pg_machine.specs.Moves
 pub use Rattle.pg_machine.specs.Step
+pub use Rattle.pg_machine.specs.declared.event.Event
