@@ -6,7 +6,7 @@ use Rattle.std.proofs.lemmas.Simd.{map-map}
 use Rattle.pg_program.specs.NameTable.{initial}
 use Rattle.pg_program.specs.Program.{IsProgram}
 use Rattle.pg_program.specs.Straight.{straight}
-use Rattle.pg_machine.proofs.StoreSteps.{stores_within}
+use Rattle.pg_views.proofs.StoreSteps.{stores_within}
 use Rattle.pg_assertion.specs.declared.atom.ViewAtom.{ViewAtom}
 use Rattle.pg_assertion.specs.Formula.{Plain}
 use Rattle.pg_judge.specs.declared.outline.PathLit.{PathLit}

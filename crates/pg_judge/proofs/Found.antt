@@ -17,7 +17,7 @@ use Rattle.pg_program.specs.Graph.{size}
 use Rattle.pg_program.specs.Program.{ProgramTable}
 use Rattle.pg_program.specs.Straight.{straight}
 use Rattle.pg_program.proofs.StraightLemmas.{straight-size}
-use Rattle.pg_machine.proofs.StoreSteps.{one_thread}
+use Rattle.pg_views.proofs.StoreSteps.{one_thread}
 use Rattle.pg_outline.specs.Outline.{OutlineTable, IsSmall, draft_of}
 use Rattle.pg_outline.specs.Fault.{first_of, first_in, in_formula, atom_fault, crash_atom_fault, locations_fault, size_fault, numbers_fault}
 use Rattle.pg_outline.specs.Made.{IsOutline}

@@ -3,9 +3,9 @@ use Rattle.std.proofs.Common.{◌≡◌, ℕ, zero, suc, ◌<◌, ◌≤◌, ◌
 use Rattle.std.specs.List.{All, list_all}
 use Rattle.std.proofs.lemmas.Bool.{ne_eqb}
 use Rattle.std.proofs.lemmas.List.Elements.{All-head, All-tail, All-get_or, All-from_get_or}
-use Rattle.pg_machine.specs.Memory.{Memory, value_at, last, last_value, message_appended}
-use Rattle.pg_machine.specs.State.{State}
-use Rattle.pg_machine.proofs.Appended.{same_number, last_upto-within, last_value-appended}
+use Rattle.pg_views.specs.Memory.{Memory, value_at, last, last_value, message_appended}
+use Rattle.pg_views.specs.State.{State}
+use Rattle.pg_views.proofs.Appended.{same_number, last_upto-within, last_value-appended}
 use Rattle.pg_assertion.specs.declared.atom.ViewAtom.{ViewAtom}
 use Rattle.pg_assertion.specs.declared.atom.ViewAtom.TheVariants.{Last}
 use Rattle.pg_assertion.specs.Formula.{Plain, atom, neg, both}
@@ -67,8 +67,8 @@ values-list [] = refl
 values-list (v ∷ l) = ap (λ (r : List ℕ). v ∷ r) (values-list l)
 
 -- without messages they are the initial values
-pub last_values-fresh : (l on : List ℕ) → last_values (record { initial = l; lines = on; messages = [] }) ≡ l
-last_values-fresh l on = values-list l
+pub last_values-fresh : (l ks : List ℕ) → last_values (record { initial = l; lines = ks; messages = [] }) ≡ l
+last_values-fresh l ks = values-list l
 
 -- a store to a location changes its last value alone
 pub last_values-appended : (m : Memory) (st : ℕ × ℕ) → st.0 < length m.initial → set (last_values m) st.0 st.1 ≡ last_values (message_appended m st)

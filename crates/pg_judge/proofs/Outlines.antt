@@ -29,7 +29,7 @@ lits : (p : Path) (names : NameTable) → p.domain ≡ names.domain → p.initia
 lits p names domain places ls all =
     All-weaker (IsWithin names) (IsLit p)
     (λ l is.
-    let long = length-map names.locations (λ (k : Location). k.init) in
+    let long = length-map names.locations (λ (l : Location). l.init) in
     let same = ap length places in
     (omega (arith, long, same, is.location), omega (arith, domain, is.value)))
     ls all

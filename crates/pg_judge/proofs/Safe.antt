@@ -3,17 +3,17 @@
 use Rattle.std.proofs.Common.{◌≡◌, ℕ, ◌+◌, ◌-◌, ◌*◌, ◌/◌, ◌%◌, ◌<◌, ◌≤◌, ◌==◌, Bool, true, false, cond, List, [], ◌∷◌, length, map, get_or, Some, refl, sym, ap, subst, ◌∙◌, arith}
 use Rattle.std.specs.List.{All}
 use Rattle.std.proofs.lemmas.Bool.{ne_eqb}
-use Rattle.std.proofs.lemmas.List.{length-set, length-map, get_or-set_same, get_or-map}
+use Rattle.std.proofs.lemmas.List.{length-map, length-set, get_or-set_same, get_or-map}
 use Rattle.std.proofs.lemmas.List.Elements.{All-nil, All-cons, All-get_or, All-weaker}
 use Rattle.pg_program.specs.Program.{IsProgram}
 use Rattle.pg_program.specs.NameTable.{Location, initial, lines}
 use Rattle.pg_program.specs.Straight.{straight}
-use Rattle.pg_machine.specs.declared.event.Event.{Event}
-use Rattle.pg_machine.specs.Memory.{Memory, last_value}
-use Rattle.pg_machine.specs.State.{State, point_of, fresh}
-use Rattle.pg_machine.specs.Step.{IsStep}
-use Rattle.pg_machine.proofs.StoreSteps.{after_store as stored, one_thread, step_stores}
-use Rattle.pg_machine.proofs.WellFormed.{All-constant, fresh_is_well_formed}
+use Rattle.pg_views.specs.Event.{Event}
+use Rattle.pg_views.specs.Memory.{Memory, last_value}
+use Rattle.pg_views.specs.State.{State, point_of, fresh}
+use Rattle.pg_views.specs.Step.{IsStep}
+use Rattle.pg_views.proofs.StoreSteps.{after_store as stored, one_thread, step_stores}
+use Rattle.pg_views.proofs.WellFormed.{All-constant, fresh_is_well_formed}
 use Rattle.pg_assertion.specs.declared.atom.ViewAtom.{ViewAtom}
 use Rattle.pg_assertion.specs.Formula.{Plain, top, bottom}
 use Rattle.pg_views.specs.Formula.{holds}
@@ -39,9 +39,13 @@ pub record IsOf (o : OutlineTable) (p : Path) : Type 0 where
   pub within : All (λ s. (s.0 < length p.initial) × (s.1 < p.domain)) p.stores
   pub path : IsPath p
 
--- what every state of an execution has: its initial values need not be the declared ones
+-- its path has an initial value of each location
+located : (o : OutlineTable) (p : Path) → IsOf o p → length o.program.names.locations ≡ length p.initial
+located o p of = sym (length-map o.program.names.locations (λ (l : Location). l.init)) ∙ ap length of.initial
+
+-- What every state of an execution has. Its initial values need not be those of the path.
 record Holds (o : OutlineTable) (p : Path) (s : State) : Type 0 where
-  pub size : length s.memory.initial ≡ length p.initial
+  pub located : length s.memory.initial ≡ length p.initial
   pub below : (x : ℕ) → x < length s.memory.initial → last_value s.memory x < p.domain
   pub pointed : length s.points ≡ 1
   pub from : 1 ≤ point_of s 1
@@ -87,14 +91,13 @@ pre_lits p s path long =
     All-weaker (IsLit p) (λ (l : PathLit). l.x < length s.memory.initial) (λ l is. let q = is.0 in omega (arith, long, q)) p.pre path.pre
 
 is_valuation : (p : Path) (m : Memory) → length m.initial ≡ length p.initial → ((x : ℕ) → x < length m.initial → last_value m x < p.domain) → IsValuation p (last_values m)
-is_valuation p m long below = record { size = length-last_values m ∙ long; below = last_values-below m p.domain below }
+is_valuation p m same below = record { size = length-last_values m ∙ same; below = last_values-below m p.domain below }
 
 -- ---- the first state
 
 start : (o : OutlineTable) (p : Path) (s : State) → IsOf o p → AllFollow p → IsStart o.program o.pre s → Holds o p s
 start o p s of all h =
-    let size : length s.memory.initial ≡ length p.initial =
-    h.formed.memory.initial ∙ (sym (length-map o.program.names.locations (λ (l : Location). l.init)) ∙ ap length of.initial) in
+    let same = h.formed.memory.initial ∙ located o p of in
     let one = (one_thread o.program.threads p.stores of.stores).0 in
     let pointed : length s.points ≡ 1 = h.formed.pointed ∙ one in
     let at : point_of s 1 ≡ 1 = All-get_or (λ (k : ℕ). k ≡ 1) s.points 0 0 (omega (arith, pointed)) h.first in
@@ -102,16 +105,16 @@ start o p s of all h =
     λ x lt. subst (λ (d : ℕ). last_value s.memory x < d) of.domain (last_value-below s.memory o.program.names.domain x h.formed.memory.values h.formed.memory.messages lt) in
     let notes = of.path.one_note_a_point in
     let pre : meets_all (last_values s.memory) p.pre ≡ true =
-    sym (holds-meets s p.pre (pre_lits p s of.path size)) ∙ subst (λ (f : Plain ViewAtom). holds s f ≡ true) of.pre h.meets in
+    sym (holds-meets s p.pre (pre_lits p s of.path same)) ∙ subst (λ (f : Plain ViewAtom). holds s f ≡ true) of.pre h.meets in
     record {
-      size = size;
+      located = same;
       below = below;
       pointed = pointed;
       from = omega (arith, at);
       to = omega (arith, at, notes);
       holds = subst (λ (k : ℕ). holds s (formula_of (note p k)) ≡ true) (sym at)
-          (holds-meets s (note p 1) (note_lits p s 1 of.path size (omega arith) (omega (arith, notes)))
-          ∙ entry_follows p all (last_values s.memory) (is_valuation p s.memory size below) pre);
+          (holds-meets s (note p 1) (note_lits p s 1 of.path same (omega arith) (omega (arith, notes)))
+          ∙ entry_follows p all (last_values s.memory) (is_valuation p s.memory same below) pre);
     }
 
 -- ---- a step
@@ -122,22 +125,22 @@ after_step o p s k of all h at to =
     let from : 1 ≤ k = let f = h.from in omega (arith, at, f) in
     let notes = of.path.one_note_a_point in
     let st = All-get_or (λ (t : ℕ × ℕ). (t.0 < length p.initial) × (t.1 < p.domain)) p.stores (k - 1) (0, 0) (omega (arith, from, to)) of.within in
-    let long = h.size in
+    let long = h.located in
     let inside : (store p k).0 < length s.memory.initial = let q = st.0 in omega (arith, long, q) in
     let pointed = h.pointed in
     let moves : point_of next 1 ≡ k + 1 = get_or-set_same s.points 0 (k + 1) 0 (omega (arith, pointed)) in
     let here : holds s (formula_of (note p k)) ≡ true = subst (λ (n : ℕ). holds s (formula_of (note p n)) ≡ true) at h.holds in
     let met : meets_all (last_values s.memory) (note p k) ≡ true =
-    sym (holds-meets s (note p k) (note_lits p s k of.path h.size from (omega (arith, notes, to)))) ∙ here in
-    let then_met = local_follows p k all from to (last_values s.memory) (is_valuation p s.memory h.size h.below) met in
+    sym (holds-meets s (note p k) (note_lits p s k of.path h.located from (omega (arith, notes, to)))) ∙ here in
+    let then_met = local_follows p k all from to (last_values s.memory) (is_valuation p s.memory h.located h.below) met in
     record {
-      size = h.size;
+      located = h.located;
       below = λ x lt. last_value-stays_below s.memory (store p k) p.domain x st.1 (h.below x lt);
       pointed = length-set s.points 0 (k + 1) ∙ pointed;
       from = omega (arith, moves);
       to = omega (arith, moves, notes, to);
       holds = subst (λ (n : ℕ). holds next (formula_of (note p n)) ≡ true) (sym moves)
-          (holds-meets next (note p (k + 1)) (note_lits p next (k + 1) of.path h.size (omega arith) (omega (arith, notes, to)))
+          (holds-meets next (note p (k + 1)) (note_lits p next (k + 1) of.path h.located (omega arith) (omega (arith, notes, to)))
           ∙ (ap (λ (w : List ℕ). meets_all w (note p (k + 1))) (sym (last_values-appended s.memory (store p k) inside)) ∙ then_met));
     }
 

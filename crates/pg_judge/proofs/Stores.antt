@@ -76,7 +76,7 @@ initial_more [] x v h = cc
 initial_more (l ∷ ls) zero v h = let same : l.init ≡ v = cc in ap (λ (y : ℕ). y ∷ []) same
 initial_more (l ∷ ls) (suc x) v h =
     let e : suc x + 1 ≡ suc (x + 1) = omega arith in
-    ap (λ (n : ℕ). take n (map (λ (k : Location). k.init) (l ∷ ls))) e ∙ ap (λ (r : List ℕ). l.init ∷ r) (initial_more ls x v h)
+    ap (λ (n : ℕ). take n (map (λ (m : Location). m.init) (l ∷ ls))) e ∙ ap (λ (r : List ℕ). l.init ∷ r) (initial_more ls x v h)
 
 -- ---- whether a program is straight
 

@@ -4,7 +4,7 @@ use Rattle.pg_judge.specs.declared.judgement.PathJudgement.{PathJudgement}
 use Rattle.pg_judge.specs.declared.judgement.PathJudgement.TheVariants.{Accepted, Rejected}
 use Rattle.pg_judge.specs.Path.{Path, count, AllFollow, IsFirstFailing}
 use Rattle.pg_program.specs.Program.{IsProgram}
-use Rattle.pg_machine.specs.State.{fresh}
+use Rattle.pg_views.specs.State.{fresh}
 use Rattle.pg_views.specs.Execution.{IsStart}
 use Rattle.pg_outline.specs.Outline.{OutlineTable}
 use Rattle.pg_judge.specs.Meaning.{IsSafe}

@@ -1,7 +1,7 @@
 -- What an outline claims of its program: safety.
 use Rattle.std.specs.Prelude.{◌≡◌, ℕ, ◌≤◌, true, List, ◌∷◌, length, All}
-use Rattle.pg_machine.specs.declared.event.Event.{Event}
-use Rattle.pg_machine.specs.State.{State, point_of}
+use Rattle.pg_views.specs.Event.{Event}
+use Rattle.pg_views.specs.State.{State, point_of}
 use Rattle.pg_views.specs.Formula.{holds}
 use Rattle.pg_views.specs.Crash.{HoldsAtCrash}
 use Rattle.pg_views.specs.Execution.{IsExecution}

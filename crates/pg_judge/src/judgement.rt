@@ -23,8 +23,8 @@ pub enum PathJudgement {
     Rejected { i: u32 },
 }
 
-/// Judges every obligation, in their order, by trying all valuations: at most 4,096 for each in version 1 of the language, and
-/// 1,679,616 in version 2. The program is one thread of stores of numbers.
+/// Judges every obligation, in their order, by trying all valuations: in version 1 of the language at most 4,096 for
+/// each. The program is one thread of stores of numbers.
 pub fn check_path(alloc: Global, o: &PathOutline<'_>) -> Result<PathJudgement, AllocError>
     requires form { IsSome (straight o.now.program.now.threads) }
     requires path { IsPath (path o.now) }
