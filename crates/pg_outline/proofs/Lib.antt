@@ -2,7 +2,7 @@ mod Rows
 mod CrashSize
 pub mod Parts
 pub mod Speaks
-mod LocationLines
+pub mod LocationLines
 pub mod EraseNames
 pub mod EraseStmts
 pub mod EraseClauses

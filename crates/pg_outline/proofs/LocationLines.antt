@@ -1,8 +1,8 @@
 -- The lines of the locations: a location is declared again on the line that it stood on.
-use Rattle.std.proofs.Common.{◌≡◌, ◌≢◌, ℕ, zero, suc, ◌+◌, ◌-◌, ◌<◌, ◌≤◌, max, false, nat_le, List, [], ◌∷◌, ◌++◌, length, take, Option, Some, None, option_map, slice_get, refl, sym, ap, ◌∙◌, inl, inr, arith}
-use Rattle.std.proofs.lemmas.Bool.{lt-leb}
+use Rattle.std.proofs.Common.{◌≡◌, ◌≢◌, ℕ, zero, suc, ◌+◌, ◌-◌, ◌<◌, ◌≤◌, max, false, nat_le, List, [], ◌∷◌, ◌++◌, length, take, get_or, Option, Some, None, option_map, slice_get, refl, sym, ap, ◌∙◌, inl, inr, arith}
+use Rattle.std.proofs.lemmas.Bool.{lt-leb, cases_lt}
 use Rattle.std.proofs.lemmas.List.{take-map, take_more, length-take-le}
-use Rattle.std.proofs.lemmas.Option.{slice_get-map, slice_get_within, unwrap_or-slice_get}
+use Rattle.std.proofs.lemmas.Option.{slice_get-map, slice_get_within, slice_get-get_or, unwrap_or-slice_get}
 use Rattle.std.specs.Option.{unwrap_or}
 use Rattle.pg_program.specs.declared.name_table.NameKind.TheVariants as kind
 use Rattle.pg_program.specs.Limits.{most_locations}
@@ -117,7 +117,23 @@ module _ (names : NameTable) (well : IsNameTable names) (x : ℕ) (here : x < le
       let is = begun_is in
       begins init k value on (omega (arith, least, most, last, is, differs))
 
-  -- and one that does is declared so, in version 2
+  -- in version 1 each location does
+  pub own_begins : names.version ≡ 1 → (l : Location) → slice_get names.locations x ≡ Some l → DeclaresAgain names x (kind.Location l.init)
+  own_begins one l at = elim (cases_lt 0 x) [
+    | inl some ↦
+        let before = get_or names.locations (x - 1) l in
+        let there : slice_get names.locations (x - 1) ≡ Some before = slice_get-get_or names.locations (x - 1) l (omega (arith, here, some)) in
+        let last = last_is before.line (omega (arith, some)) (ap (option_map (λ (m : Location). m.line)) there) in
+        let a = well.apart one x l at in
+        let b = well.apart one (x - 1) before there in
+        begins l.init l.line value (ap (option_map (λ (m : Location). m.line)) at) (omega (arith, a, b, last, some))
+    | inr none ↦ first_begins l.init value (omega (arith, none))
+  ]
+    where
+      value : option_map (λ m. m.init) (slice_get names.locations x) ≡ Some l.init
+      value = ap (option_map (λ (m : Location). m.init)) at
+
+  -- and one that stands on the line of the one before it is declared so, in version 2
   pub stands_with : (init k j : ℕ) → option_map (λ l. l.init) (slice_get names.locations x) ≡ Some init → 1 ≤ x
       → option_map (λ l. l.line) (slice_get names.locations x) ≡ Some k → option_map (λ l. l.line) (slice_get names.locations (x - 1)) ≡ Some j → k ≡ j → DeclaresAgain names x (kind.LocationWith init)
   stands_with init k j value some on before is = record {
