@@ -1,5 +1,5 @@
 -- The declarations, the precondition and the crash formula that are in the grammar are read.
-use Rattle.std.proofs.Common.{◌≡◌, ℕ, zero, suc, ◌+◌, ◌<◌, ◌≤◌, false, Ok, Err, Some, None, List, [], ◌∷◌, length, refl, ap, sym, ◌∙◌, subst, arith}
+use Rattle.std.proofs.Common.{◌≡◌, ℕ, zero, suc, ◌+◌, ◌-◌, ◌<◌, ◌≤◌, nat_le, false, Ok, Err, Some, None, List, [], ◌∷◌, length, refl, ap, sym, ◌∙◌, subst, arith}
 use Rattle.std.specs.Prelude.{if◌then◌else◌}
 use Rattle.std.proofs.lemmas.List.{length_push}
 use Rattle.std.proofs.lemmas.Bool.{leb-false}
@@ -7,11 +7,11 @@ use Rattle.pg_lex.specs.declared.token.Sign.TheVariants as s
 use Rattle.pg_lex.specs.declared.token.TokenKind.TheVariants as kind
 use Rattle.pg_lex.specs.declared.fault.TextKind.TheVariants.{Unexpected}
 use Rattle.pg_lex.specs.Lex.{Cursor, Lexeme, token}
-use Rattle.pg_program.specs.Limits.{most_locations as MAX_LOCATIONS, most_scalars as MAX_SCALARS}
+use Rattle.pg_program.specs.Limits.{most_locations, most_locations_1 as MAX_LOCATIONS, most_scalars as MAX_SCALARS}
 use Rattle.pg_program.specs.declared.name_table.NameKind.{NameKind}
 use Rattle.pg_program.specs.declared.name_table.NameKind.TheVariants as name
 use Rattle.pg_program.specs.declared.name_table.ScalarKind.TheVariants as scalar
-use Rattle.pg_program.specs.NameTable.{NameTable, find, is_full, with_name}
+use Rattle.pg_program.specs.NameTable.{NameTable, Location, lines, line_count, find, is_full, with_name, with_location}
 use Rattle.pg_assertion.specs.Formula.{Plain}
 use Rattle.pg_assertion_text.specs.Words.{Stands, Stand, sign, number}
 use Rattle.pg_assertion_text.specs.Input as input
@@ -23,6 +23,7 @@ use Rattle.pg_assertion_text.proofs.Whole.{formula_at_reads}
 use Rattle.pg_program_text.specs.Stmt.{behind}
 use Rattle.pg_outline_text.specs.declared.word.Keyword.{Keyword}
 use Rattle.pg_outline_text.specs.declared.word.Keyword.TheVariants as w
+use Rattle.pg_outline_text.specs.Limits.{known_version}
 use Rattle.pg_outline_text.specs.Word.{is_keyword, expect_word}
 use Rattle.pg_outline_text.specs.Declaration.{unless_found, new_name_by, new_name_in, new_name, last_number, location, register, auxiliary, declared_by, declaration, and_more, declarations_on}
 use Rattle.pg_outline_text.specs.Reading.{given, given_by, domain, version}
@@ -136,6 +137,7 @@ abbrev pub size_of : NameTable → ℕ
 size_of names = length names.locations + length names.scalars
 
 pub record IsFew (names : NameTable) : Type 0 where
+  pub version : names.version ≡ known_version
   pub locations : length names.locations ≤ MAX_LOCATIONS
   pub scalars : length names.scalars ≤ MAX_SCALARS
 
@@ -144,19 +146,23 @@ pub record OneMore (names more : NameTable) : Type 0 where
   pub few : IsFew more
   pub size : size_of more ≡ size_of names + 1
 
+location_more : (names : NameTable) (l : Location) → IsFew names → nat_le (most_locations names.version) (length names.locations) ≡ false → OneMore names (with_location l names)
+location_more names l few room =
+    let left = leb-false MAX_LOCATIONS (length names.locations) (subst (λ (v : ℕ). nat_le (most_locations v) (length names.locations) ≡ false) few.version room) in
+    let many = length_push names.locations l in
+    record { few = record { version = few.version; locations = omega arith; scalars = few.scalars }; size = omega arith }
+
 one_named : (names : NameTable) (k : NameKind) (x : List ℕ) → IsFew names → is_full k names ≡ false → OneMore names (with_name x k names)
-one_named names (name.Location v) x few room =
-    let left = leb-false MAX_LOCATIONS (length names.locations) room in
-    let many = length_push names.locations (x, v) in
-    record { few = record { locations = omega arith; scalars = few.scalars }; size = omega arith }
+one_named names (name.Location v) x few room = location_more names (record { name = x; init = v; line = line_count (lines names) }) few room
+one_named names (name.LocationWith v) x few room = location_more names (record { name = x; init = v; line = line_count (lines names) - 1 }) few room
 one_named names (name.Register t) x few room =
     let left = leb-false MAX_SCALARS (length names.scalars) room in
     let many = length_push names.scalars (x, scalar.Register t) in
-    record { few = record { locations = few.locations; scalars = omega arith }; size = omega arith }
+    record { few = record { version = few.version; locations = few.locations; scalars = omega arith }; size = omega arith }
 one_named names name.Auxiliary x few room =
     let left = leb-false MAX_SCALARS (length names.scalars) room in
     let many = length_push names.scalars (x, scalar.Auxiliary) in
-    record { few = record { locations = few.locations; scalars = omega arith }; size = omega arith }
+    record { few = record { version = few.version; locations = few.locations; scalars = omega arith }; size = omega arith }
 
 one_declared : (names more : NameTable) (from to : Cursor) → IsFew names → IsDeclaration names from more to → OneMore names more
 one_declared names _ _ _ few (a_location x v from mid end to st new items) = one_named names (name.Location v) x few new.room

@@ -13,4 +13,4 @@ mod SpellingLines
 mod SpellingNumbers
 mod SpellingNames
 mod SpellingOutlines
-mod SpellingWritable
+pub mod SpellingWritable

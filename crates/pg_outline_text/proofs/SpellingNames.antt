@@ -1,6 +1,7 @@
 -- What the lines of locations and scalars are spelled with declares them: each name is new where it stands.
-use Rattle.std.proofs.Common.{◌≡◌, ℕ, ◌≤◌, false, nat_le, List, [], ◌∷◌, ◌++◌, length, Option, Some, None, slice_get, refl, sym, ap, subst, ◌∙◌, arith, append_assoc, length-append}
+use Rattle.std.proofs.Common.{◌≡◌, ℕ, zero, suc, ◌+◌, ◌<◌, ◌≤◌, Bool, true, false, cond, nat_le, List, [], ◌∷◌, ◌++◌, length, map, take, drop, Option, Some, None, option_map, slice_get, refl, sym, ap, subst, ◌∙◌, arith, append_assoc, length-append}
 use Rattle.std.specs.List.{All, flat_map}
+use Rattle.std.specs.Str.{bytes_eq}
 use Rattle.std.proofs.lemmas.Bool.{lt-leb}
 use Rattle.std.proofs.lemmas.List.{append-nil}
 use Rattle.std.proofs.lemmas.List.Elements.{All-head, All-tail}
@@ -10,17 +11,20 @@ use Rattle.pg_program.specs.declared.name_table.NameKind.TheVariants as name
 use Rattle.pg_program.specs.declared.name_table.NameRef.TheVariants as place
 use Rattle.pg_program.specs.declared.name_table.ScalarKind.{ScalarKind}
 use Rattle.pg_program.specs.declared.name_table.ScalarKind.TheVariants.{Register, Auxiliary}
-use Rattle.pg_program.specs.NameTable.{NameTable, IsNameTable, find, found, place_in, is_full, with_name}
-use Rattle.pg_program.proofs.NameLemmas.{place_in-kept}
+use Rattle.pg_program.specs.Limits.{most_scalars}
+use Rattle.pg_program.specs.NameTable.{NameTable, Location, IsNameTable, empty_table, location_names, scalar_names, find, found, place_in, is_full, with_name}
 use Rattle.pg_assertion_text.specs.Words.{word}
 use Rattle.pg_assertion_text.specs.Spelling.{Ends, IsName}
-use Rattle.pg_assertion_text.proofs.Names.{place_within}
 use Rattle.pg_assertion_text.proofs.SpellingTokens.{Spells, mapped, word_stands, equal_stands}
 use Rattle.pg_assertion_text.proofs.SpellingAtoms.{number_spells}
 use Rattle.pg_program_text.proofs.SpellingLines.{Written, empty, followed, changed, blank_in_front}
+use Rattle.pg_outline.specs.Erasure.{first_locations}
+use Rattle.pg_outline.proofs.EraseNames.{new_location}
+use Rattle.pg_outline.proofs.LocationLines.{own_begins}
 use Rattle.pg_outline_text.specs.declared.word.Keyword.TheVariants as w
+use Rattle.pg_outline_text.specs.Limits.{known_version}
 use Rattle.pg_outline_text.specs.Grammar.{IsNewName, IsDeclaration, a_location, a_register, an_auxiliary, AreDeclarations, no_more, one_more}
-use Rattle.pg_outline_text.specs.Spelling.{location_line, scalar_line}
+use Rattle.pg_outline_text.specs.Spelling.{location_line, location_lines, scalar_line}
 use Rattle.pg_outline_text.proofs.SpellingLines.{before, keyword_stands, semicolon_line}
 use Rattle.pg_outline_text.proofs.SpellingNumbers.{Small, OwnerSmall}
 
@@ -47,7 +51,7 @@ new_spells names k w may =
     })
 
 location_written : (names : NameTable) (x : List ℕ) (v : ℕ) → MayStand names (name.Location v) x → Small v
-    → Written (λ from to. IsDeclaration names from (with_name x (name.Location v) names) to) (location_line (x, v))
+    → Written (λ from to. IsDeclaration names from (with_name x (name.Location v) names) to) (location_line x v)
 unfolding location_line
 location_written names x v may small =
     changed
@@ -92,21 +96,18 @@ get_at [] fs e = refl
 get_at (d ∷ es) fs e = get_at es fs e
 
 -- a name whose place is behind some entries is none of theirs
-none_before : {V : Type 0} (w : List ℕ) (es fs : List (List ℕ × V)) → place_in w (es ++ fs) ≡ Some (length es) → place_in w es ≡ None
-none_before w es fs h = by (place_in w es) refl
+none_before : {X : Type 0} (called : X → List ℕ) (w : List ℕ) (xs ys : List X) → place_in w (map called (xs ++ ys)) ≡ Some (length xs) → place_in w (map called xs) ≡ None
+none_before called w [] ys h = refl
+none_before called w (x ∷ xs) ys h = by (bytes_eq w (called x)) (place_in w (map called (xs ++ ys))) (none_before called w xs ys) h
   where
-    by : (o : Option ℕ) → place_in w es ≡ o → place_in w es ≡ None
-    by None is = is
-    by (Some i) is =
-        let kept = place_in-kept w es fs i is in
-        let same : i ≡ length es = cc in
-        let within = place_within w es i is in
-        absurd (omega arith)
-
-location_of : (l r : Option ℕ) (x : ℕ) → found l r ≡ Some (place.Location x) → l ≡ Some x
-location_of (Some y) r x h = cc
-location_of None None x h = cc
-location_of None (Some q) x h = cc
+    by : (b : Bool) (o : Option ℕ) → (o ≡ Some (length xs) → place_in w (map called xs) ≡ None) → cond b (Some 0) (option_map (λ i. i + 1) o) ≡ Some (suc (length xs))
+        → cond b (Some 0) (option_map (λ i. i + 1) (place_in w (map called xs))) ≡ None
+    by true o rest h = cc
+    by false None rest h = cc
+    by false (Some i) rest h =
+        let next : i + 1 ≡ suc (length xs) = cc in
+        let same : i ≡ length xs = omega (arith, next) in
+        ap (option_map (λ i. i + 1)) (rest (ap Some same))
 
 scalar_of : (l r : Option ℕ) (x : ℕ) → found l r ≡ Some (place.Scalar x) → (l ≡ None) × (r ≡ Some x)
 scalar_of (Some y) r x h = cc
@@ -122,58 +123,78 @@ room_for n all es fs e split few =
 
 -- ---- all declarations
 
-module _ (t : NameTable) (table : IsNameTable t) where
-  -- a table of some of its names
-  abbrev some_names : List (List ℕ × ℕ) → List (List ℕ × ScalarKind) → NameTable
-  some_names ls ss = record { domain = t.domain; locations = ls; scalars = ss }
+-- an entry, and what stands behind it
+first_left : {X : Type 0} (xs : List X) (i : ℕ) (x : X) (rest : List X) → drop i xs ≡ x ∷ rest → (i < length xs) × (slice_get xs i ≡ Some x) × (drop (i + 1) xs ≡ rest)
+first_left [] zero x rest h = cc
+first_left [] (suc i) x rest h = cc
+first_left (y ∷ xs) zero x rest h = let first : y ≡ x = cc in let others : xs ≡ rest = cc in (omega arith, ap Some first, others)
+first_left {X} (y ∷ xs) (suc i) x rest h =
+    let more = first_left xs i x rest h in
+    let low = more.0 in
+    let next : suc i + 1 ≡ suc (i + 1) = omega arith in
+    (omega (arith, low), more.1, ap (λ (k : ℕ). drop k (y ∷ xs)) next ∙ more.2)
 
-  location_may : (done es : List (List ℕ × ℕ)) (x : List ℕ) (v : ℕ) → t.locations ≡ done ++ (x, v) ∷ es → IsName x → MayStand (some_names done []) (name.Location v) x
-  location_may done es x v split is =
-      let own = table.own_location (length done) v x (ap (λ ls. slice_get ls (length done)) split ∙ get_at done es (x, v)) in
-      let at = location_of (place_in x t.locations) (place_in x t.scalars) (length done) own in
-      record {
-        is_name = is;
-        new = ap (λ o. found o None) (none_before x done ((x, v) ∷ es) (ap (place_in x) (sym split) ∙ at));
-        room = room_for 6 t.locations done es (x, v) split table.few_locations;
-      }
+none_left : {X : Type 0} (xs : List X) (i : ℕ) → drop i xs ≡ [] → take i xs ≡ xs
+none_left [] zero h = refl
+none_left [] (suc i) h = refl
+none_left (x ∷ xs) zero h = cc
+none_left {X} (x ∷ xs) (suc i) h = ap (λ (l : List X). x ∷ l) (none_left xs i h)
 
-  locations_written : (es done : List (List ℕ × ℕ)) → t.locations ≡ done ++ es → All (λ e. IsName e.0) es → All (λ e. Small e.1) es
-      → Written (λ from to. AreDeclarations (some_names done []) from (some_names t.locations []) to) (flat_map location_line es)
-  locations_written [] done split are small =
-      subst (λ ls. Written (λ from to. AreDeclarations (some_names done []) from (some_names ls []) to) []) (sym (split ∙ append-nil done))
-      (empty (λ from. no_more (some_names done []) from))
-  locations_written ((x, v) ∷ es) done split are small =
-      let names = some_names done [] in
-      let more = some_names (done ++ (x, v) ∷ []) [] in
-      let one = location_written names x v (location_may done es x v split (All-head (λ (e : List ℕ × ℕ). IsName e.0) (x, v) es are)) (All-head (λ (e : List ℕ × ℕ). Small e.1) (x, v) es small) in
-      let rest =
-      locations_written es (done ++ (x, v) ∷ []) (split ∙ sym (append_assoc done ((x, v) ∷ []) es)) (All-tail (λ (e : List ℕ × ℕ). IsName e.0) (x, v) es are)
-      (All-tail (λ (e : List ℕ × ℕ). Small e.1) (x, v) es small)
-      in
-      changed (followed one rest) (λ from to way. one_more names more (some_names t.locations []) from way.0 to way.1 way.2)
+module _ (t : NameTable) (table : IsNameTable t) (one : t.version ≡ known_version) where
+  -- a table of all its locations and some of its scalars
+  abbrev some_names : List (List ℕ × ScalarKind) → NameTable
+  some_names ss = record t { scalars = ss }
+
+  -- each location begins a line behind those before it
+  location_may : (x : ℕ) (l : Location) → x < length t.locations → slice_get t.locations x ≡ Some l → IsName l.name
+      → MayStand (first_locations x t) (name.Location l.init) l.name × (with_name l.name (name.Location l.init) (first_locations x t) ≡ first_locations (x + 1) t)
+  location_may x l below at is =
+      let again = own_begins t table x below one l at in (
+        record {
+          is_name = is;
+          new = new_location t table x l.name (first_locations x t) (ap (option_map (λ (l : Location). l.name)) at) refl;
+          room = again.room;
+        },
+        again.same l at,
+      )
+
+  locations_written : (ls : List Location) (x : ℕ) → drop x t.locations ≡ ls → All (λ l. IsName l.name) ls → All (λ l. Small l.init) ls
+      → Written (λ from to. AreDeclarations (first_locations x t) from (some_names []) to) (location_lines ls)
+  locations_written [] x left are small =
+      subst (λ (ls : List Location). Written (λ from to. AreDeclarations (first_locations x t) from (record t { locations = ls; scalars = [] }) to) []) (none_left t.locations x left)
+      (empty (λ from. no_more (first_locations x t) from))
+  locations_written (l ∷ ls) x left are small =
+      let names = first_locations x t in
+      let more = first_locations (x + 1) t in
+      let here = first_left t.locations x l ls left in
+      let may = location_may x l here.0 here.1 (All-head (λ (l : Location). IsName l.name) l ls are) in
+      let first = location_written names l.name l.init may.0 (All-head (λ (l : Location). Small l.init) l ls small) in
+      let rest = locations_written ls (x + 1) here.2 (All-tail (λ (l : Location). IsName l.name) l ls are) (All-tail (λ (l : Location). Small l.init) l ls small) in
+      changed (followed first rest) (λ from to way. one_more names more (some_names []) from way.0 to (subst (λ (n : NameTable). IsDeclaration names from n way.0) may.1 way.1) way.2)
 
   record Apart (done : List (List ℕ × ScalarKind)) (x : List ℕ) : Type 0 where
-    new : find x (some_names t.locations done) ≡ None
-    room : nat_le 16 (length done) ≡ false
+    new : find x (some_names done) ≡ None
+    room : nat_le most_scalars (length done) ≡ false
 
   scalar_apart : (done es : List (List ℕ × ScalarKind)) (x : List ℕ) (k : ScalarKind) → t.scalars ≡ done ++ (x, k) ∷ es → Apart done x
   scalar_apart done es x k split =
       let own = table.own_scalar (length done) k x (ap (λ ss. slice_get ss (length done)) split ∙ get_at done es (x, k)) in
-      let at = scalar_of (place_in x t.locations) (place_in x t.scalars) (length done) own in
-      let none = none_before x done ((x, k) ∷ es) (ap (place_in x) (sym split) ∙ at.1) in
+      let at = scalar_of (place_in x (location_names t)) (place_in x (scalar_names t)) (length done) own in
+      let called = λ (e : List ℕ × ScalarKind). e.0 in
+      let none = none_before called x done ((x, k) ∷ es) (ap (λ (ss : List (List ℕ × ScalarKind)). place_in x (map called ss)) (sym split) ∙ at.1) in
       record {
-        new = ap (λ o. found o (place_in x done)) at.0 ∙ ap (found None) none;
-        room = room_for 16 t.scalars done es (x, k) split table.few_scalars;
+        new = ap (λ o. found o (place_in x (map called done))) at.0 ∙ ap (found None) none;
+        room = room_for most_scalars t.scalars done es (x, k) split table.few_scalars;
       }
 
   scalars_written : (es done : List (List ℕ × ScalarKind)) → t.scalars ≡ done ++ es → All (λ e. IsName e.0) es → All (λ e. OwnerSmall e.1) es
-      → Written (λ from to. AreDeclarations (some_names t.locations done) from t to) (flat_map scalar_line es)
+      → Written (λ from to. AreDeclarations (some_names done) from t to) (flat_map scalar_line es)
   scalars_written [] done split are small =
-      subst (λ ss. Written (λ from to. AreDeclarations (some_names t.locations done) from (some_names t.locations ss) to) []) (sym (split ∙ append-nil done))
-      (empty (λ from. no_more (some_names t.locations done) from))
+      subst (λ ss. Written (λ from to. AreDeclarations (some_names done) from (some_names ss) to) []) (sym (split ∙ append-nil done))
+      (empty (λ from. no_more (some_names done) from))
   scalars_written ((x, Register o) ∷ es) done split are small =
-      let names = some_names t.locations done in
-      let more = some_names t.locations (done ++ (x, Register o) ∷ []) in
+      let names = some_names done in
+      let more = some_names (done ++ (x, Register o) ∷ []) in
       let apart = scalar_apart done es x (Register o) split in
       let one =
       register_written names x o (record { is_name = All-head (λ (e : List ℕ × ScalarKind). IsName e.0) (x, Register o) es are; new = apart.new; room = apart.room })
@@ -185,8 +206,8 @@ module _ (t : NameTable) (table : IsNameTable t) where
       in
       changed (followed one rest) (λ from to way. one_more names more t from way.0 to way.1 way.2)
   scalars_written ((x, Auxiliary) ∷ es) done split are small =
-      let names = some_names t.locations done in
-      let more = some_names t.locations (done ++ (x, Auxiliary) ∷ []) in
+      let names = some_names done in
+      let more = some_names (done ++ (x, Auxiliary) ∷ []) in
       let apart = scalar_apart done es x Auxiliary split in
       let one = auxiliary_written names x (record { is_name = All-head (λ (e : List ℕ × ScalarKind). IsName e.0) (x, Auxiliary) es are; new = apart.new; room = apart.room }) in
       let rest =
@@ -201,9 +222,10 @@ declared_further _ _ c _ _ to (one_more names more all from mid end one others) 
     one_more names more c from mid to one (declared_further more all c mid end to others rest)
 
 -- the lines of all locations, and then of all scalars
-pub names_written : (t : NameTable) → IsNameTable t → All (λ e. IsName e.0) t.locations → All (λ e. IsName e.0) t.scalars → All (λ e. Small e.1) t.locations → All (λ e. OwnerSmall e.1) t.scalars
-    → Written (λ from to. AreDeclarations (record { domain = t.domain; locations = []; scalars = [] }) from t to) (flat_map location_line t.locations ++ flat_map scalar_line t.scalars)
-names_written t table are also small fit =
-    changed (followed (locations_written t table t.locations [] refl are small) (scalars_written t table t.scalars [] refl also fit))
-    (λ from to way.
-    declared_further (record { domain = t.domain; locations = []; scalars = [] }) (record { domain = t.domain; locations = t.locations; scalars = [] }) t from way.0 to way.1 way.2)
+pub names_written : (t : NameTable) → IsNameTable t → t.version ≡ known_version → All (λ l. IsName l.name) t.locations → All (λ e. IsName e.0) t.scalars → All (λ l. Small l.init) t.locations
+    → All (λ e. OwnerSmall e.1) t.scalars
+    → Written (λ from to. AreDeclarations (empty_table t.domain known_version) from t to) (location_lines t.locations ++ flat_map scalar_line t.scalars)
+names_written t table one are also small fit =
+    subst (λ (v : ℕ). Written (λ from to. AreDeclarations (empty_table t.domain v) from t to) (location_lines t.locations ++ flat_map scalar_line t.scalars)) one
+    (changed (followed (locations_written t table one t.locations 0 refl are small) (scalars_written t table one t.scalars [] refl also fit))
+    (λ from to way. declared_further (empty_table t.domain t.version) (record t { scalars = [] }) t from way.0 to way.1 way.2))

@@ -40,6 +40,7 @@ use Rattle.pg_outline.specs.Made.{IsOutline}
 use Rattle.pg_outline.specs.Fault as outline_fault
 use Rattle.pg_outline_text.specs.declared.word.Keyword.{Keyword}
 use Rattle.pg_outline_text.specs.declared.word.Keyword.TheVariants as w
+use Rattle.pg_outline_text.specs.Limits.{known_version}
 use Rattle.pg_outline_text.specs.Word.{spelling}
 use Rattle.pg_outline_text.specs.Source.{Source, draft, IsMadeOf}
 use Rattle.pg_outline_text.specs.Grammar.{keyword, AreDeclarations, IsGiven, left_out, written, IsEnd, IsThreadOfText, AreThreads, last_one, one_thread}
@@ -195,7 +196,7 @@ source o = record { names = o.program.names; pre = with_atoms raw_of o.pre; cras
 
 abbrev HeadAt : OutlineTable → Cursor → Cursor → Type 0
 HeadAt o =
-    let names = empty_table o.program.names.domain in
+    let names = empty_table o.program.names.domain known_version in
     Then (VersionAt names) (Then (DomainAt names o.program.names.domain) (λ from to. AreDeclarations names from o.program.names to))
 
 abbrev BodyAt : OutlineTable → Cursor → Cursor → Type 0
@@ -206,11 +207,11 @@ BodyAt o =
 head_written : (o : OutlineTable) → IsOutline o → IsWritableOutline o → Written (HeadAt o) (head_lines o.program.names)
 unfolding head_lines
 head_written o is fit =
-    let names = empty_table o.program.names.domain in
+    let names = empty_table o.program.names.domain known_version in
     let program = is.draft.program in
     let table = table_of o.program.names o.program.threads o.notes program.threads.some fit.threads in
     followed (version_written names) (followed (domain_written names o.program.names.domain (domain_small o.program program))
-    (names_written o.program.names table fit.names_are.locations fit.names_are.scalars (initial_small o.program program) (owners_fit o.program program)))
+    (names_written o.program.names table fit.version fit.names_are.locations fit.names_are.scalars (initial_small o.program program) (owners_fit o.program program)))
 
 outline_written : (o : OutlineTable) → IsOutline o → IsWritableOutline o → Written (Then (HeadAt o) (BodyAt o)) (spell_outline o)
 unfolding spell_outline

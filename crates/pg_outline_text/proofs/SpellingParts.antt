@@ -1,7 +1,7 @@
 -- What printing an outline needs of its parts: the entries of the table one by one, the threads one by one, and that each
 -- formula speaks of declared names alone.
-use Rattle.std.proofs.Common.{◌≡◌, ℕ, zero, suc, ◌+◌, ◌-◌, ◌<◌, ◌≤◌, List, [], ◌∷◌, ◌++◌, length, drop, map, get_or, Some, None, refl, sym, ap, ap₂, ◌∙◌, arith, append_assoc}
-use Rattle.std.specs.Prelude.{Result, Ok, Err, OnOk, Option, option_map, slice_get, unwrap_or, codes, decimal}
+use Rattle.std.proofs.Common.{◌≡◌, ℕ, zero, suc, ◌+◌, ◌<◌, List, [], ◌∷◌, ◌++◌, length, drop, map, get_or, Some, None, refl, sym, ap, ap₂, ◌∙◌, arith, append_assoc}
+use Rattle.std.specs.Prelude.{Result, Ok, Err, OnOk, Option, IfSome, option_map, slice_get, unwrap_or, codes, decimal}
 use Rattle.std.specs.List.{All}
 use Rattle.std.proofs.lemmas.Option.{unwrap_or-slice_get}
 use Rattle.std.proofs.lemmas.List.{drop_more}
@@ -10,34 +10,34 @@ use Rattle.pg_program.specs.declared.name_table.NameKind.TheVariants as name
 use Rattle.pg_program.specs.declared.name_table.ScalarKind.{ScalarKind}
 use Rattle.pg_program.specs.declared.name_table.ScalarKind.TheVariants as scalar
 use Rattle.pg_program.specs.declared.syntax.Stmt.{Stmt}
-use Rattle.pg_program.specs.NameTable.{NameTable, kind_of}
+use Rattle.pg_program.specs.NameTable.{NameTable, Location, kind_of}
 use Rattle.pg_assertion.specs.declared.atom.ViewAtom.{ViewAtom}
 use Rattle.pg_assertion.specs.declared.atom.ViewAtom.TheVariants as view
 use Rattle.pg_assertion.specs.Formula.{Plain, top, bottom, atom, neg, both, either, implies, AllAtoms, with_atoms}
 use Rattle.pg_assertion.specs.Atom.{raw_of, RawDeclared, NamesDeclared}
 use Rattle.pg_assertion_text.specs.Spelling.{spell_atom, spell_crash}
 use Rattle.pg_outline.specs.Outline.{OutlineTable, IsSmall}
-use Rattle.pg_outline_text.specs.Spelling.{location_line, scalar_line, given_line, first_notes, thread_lines, threads_lines, head_lines, spell_outline}
+use Rattle.pg_outline_text.specs.Spelling.{location_line, location_lines, scalar_line, given_line, first_notes, thread_lines, threads_lines, head_lines, spell_outline}
 
 -- ---- entries
 
-name_of : {A B : Type 0} (o : Option (A × B)) (n : A) (d : A × B) → option_map (λ e. e.0) o ≡ Some n → (unwrap_or o d).0 ≡ n
-name_of None n d h = cc
-name_of (Some e) n d h = cc
+-- the line of a location by its name and its initial value
+pub location_entry : (o : Option Location) (n : List ℕ) (v : ℕ) (old new : List ℕ) → option_map (λ l. l.name) o ≡ Some n → option_map (λ l. l.init) o ≡ Some v
+    → new ≡ old ++ location_line n v → IfSome o (λ l. new ≡ old ++ location_line l.name l.init)
+location_entry None n v old new h k is = tt
+location_entry (Some l) n v old new h k is =
+    let called : n ≡ l.name = cc in
+    let value : v ≡ l.init = cc in
+    is ∙ ap₂ (λ (a : List ℕ) (b : ℕ). old ++ location_line a b) called value
 
-value_of : {A B : Type 0} (o : Option (A × B)) (v : B) (d : A × B) → option_map (λ e. e.1) o ≡ Some v → (unwrap_or o d).1 ≡ v
-value_of None v d h = cc
-value_of (Some e) v d h = cc
-
-entry_name : {A B : Type 0} (es : List (A × B)) (x : ℕ) (n : A) (d : A × B) → option_map (λ e. e.0) (slice_get es x) ≡ Some n → (get_or es x d).0 ≡ n
-entry_name es x n d h = ap (λ e. e.0) (sym (unwrap_or-slice_get es x d)) ∙ name_of (slice_get es x) n d h
-
-entry_value : {A B : Type 0} (es : List (A × B)) (x : ℕ) (v : B) (d : A × B) → option_map (λ e. e.1) (slice_get es x) ≡ Some v → (get_or es x d).1 ≡ v
-entry_value es x v d h = ap (λ e. e.1) (sym (unwrap_or-slice_get es x d)) ∙ value_of (slice_get es x) v d h
-
-pub location_entry : (es : List (List ℕ × ℕ)) (x : ℕ) (n : List ℕ) (v : ℕ) → option_map (λ e. e.0) (slice_get es x) ≡ Some n
-    → option_map (λ e. e.1) (slice_get es x) ≡ Some v → location_line (get_or es x ([], 0)) ≡ location_line (n, v)
-location_entry es x n v h k = ap₂ (λ a b. location_line (a, b)) (entry_name es x n ([], 0) h) (entry_value es x v ([], 0) k)
+-- the lines of the locations from one of them on are its own and those behind it
+pub locations_more : (ls : List Location) (x : ℕ) (old new : List ℕ) → x < length ls → IfSome (slice_get ls x) (λ l. new ≡ old ++ location_line l.name l.init)
+    → new ++ location_lines (drop (x + 1) ls) ≡ old ++ location_lines (drop x ls)
+locations_more [] x old new below is = absurd (omega arith)
+locations_more (l ∷ ls) zero old new below is = ap (λ (t : List ℕ). t ++ location_lines ls) is ∙ append_assoc old (location_line l.name l.init) (location_lines ls)
+locations_more (l ∷ ls) (suc x) old new below is =
+    let next : suc x + 1 ≡ suc (x + 1) = omega arith in
+    ap (λ (k : ℕ). new ++ location_lines (drop k (l ∷ ls))) next ∙ locations_more ls x old new (omega arith) is
 
 scalar_of : (o : Option (List ℕ × ScalarKind)) (n : List ℕ) (k : ScalarKind) → option_map (λ e. e.0) o ≡ Some n → option_map (λ e. kind_of e.1) o ≡ Some (kind_of k)
     → unwrap_or o ([], scalar.Auxiliary) ≡ (n, k)

@@ -23,7 +23,7 @@ use Rattle.pg_program_text.specs.Grammar.{IsThreadText}
 use Rattle.pg_program_text.proofs.ThreadComplete.{thread_reads}
 use Rattle.pg_outline_text.specs.declared.word.Keyword.{Keyword}
 use Rattle.pg_outline_text.specs.declared.word.Keyword.TheVariants as w
-use Rattle.pg_outline_text.specs.Limits.{most_threads, declaration_turns}
+use Rattle.pg_outline_text.specs.Limits.{known_version, most_threads, declaration_turns}
 use Rattle.pg_outline_text.specs.Word.{spelling}
 use Rattle.pg_outline_text.specs.Declaration.{declarations}
 use Rattle.pg_outline_text.specs.Reading.{precondition, crash_formula, opens_thread, opened, own_number_in, own_number, end_fault, close, thread, is_end, threads_on, threads, domain, outline_over, outline, whole}
@@ -164,19 +164,19 @@ over_reads o r from crash_at threads_at pre crash threads few =
     )
 
 outline_reads : (bytes : List ℕ) (o : Source) (is : IsSourceText bytes o) (mid : Cursor)
-    → Stand (empty_table is.domain) (sign s.Semicolon ∷ keyword w.Values ∷ number is.domain ∷ sign s.Semicolon ∷ []) mid is.decls → (end : Input) × (outline (at mid most_threads) ≡ Ok (o, end))
+    → Stand (empty_table is.domain known_version) (sign s.Semicolon ∷ keyword w.Values ∷ number is.domain ∷ sign s.Semicolon ∷ []) mid is.decls → (end : Input) × (outline (at mid most_threads) ≡ Ok (o, end))
 unfolding outline
 outline_reads bytes o is mid head =
     let opens = threads_open o.names 1 is.threads_at o.threads is.threads in
     let behind = crash_behind o.names is.crash_at is.threads_at o.crash is.crash opens in
     let none = pre_behind o.names is.pre_at is.crash_at o.pre is.pre behind.declares_none in
     let over = over_reads o most_threads is.pre_at is.crash_at is.threads_at is.pre is.crash is.threads is.few in
-    let empty = empty_table is.domain in (
+    let empty = empty_table is.domain known_version in (
       over.0,
-      bind_value (and_then (expect s.Semicolon (at mid most_threads)) (λ u. domain)) (λ d. (λ i. and_then (declarations (empty_table d) i) outline_over)) is.domain (at is.decls most_threads)
+      bind_value (and_then (expect s.Semicolon (at mid most_threads)) (λ u. domain)) (λ d. (λ i. and_then (declarations (empty_table d known_version) i) outline_over)) is.domain (at is.decls most_threads)
           (ap (λ p. and_then p (λ u. domain)) (expect_reads empty s.Semicolon (at mid most_threads) head.0 head.1) ∙ domain_reads empty (at head.0 most_threads) is.domain is.decls head.2)
           ∙ bind_value (declarations empty (at is.decls most_threads)) outline_over o.names (at is.pre_at most_threads)
-          (declarations_read empty o.names (at is.decls most_threads) is.decls is.pre_at refl is.declared none (record { locations = omega arith; scalars = omega arith }) declaration_turns (omega arith))
+          (declarations_read empty o.names (at is.decls most_threads) is.decls is.pre_at refl is.declared none (record { version = refl; locations = omega arith; scalars = omega arith }) declaration_turns (omega arith))
           ∙ over.1,
     )
 
@@ -184,7 +184,7 @@ outline_reads bytes o is mid head =
 pub source_reads : (bytes : List ℕ) (o : Source) → IsSourceText bytes o → source_of bytes ≡ Ok o
 unfolding source_of
 source_reads bytes o is =
-    let empty = empty_table is.domain in
+    let empty = empty_table is.domain known_version in
     let head = stand-split empty (keyword w.Pierogi ∷ number 1 ∷ []) (sign s.Semicolon ∷ keyword w.Values ∷ number is.domain ∷ sign s.Semicolon ∷ []) (start bytes) is.decls is.head in
     let rest = outline_reads bytes o is head.0 head.2 in
     ap behind_version (version_reads empty (whole bytes) 1 head.0 head.1) ∙ ap source_in rest.1

@@ -187,9 +187,9 @@ unfolding outline
 outline_found bytes i j o head h =
     bind_then (and_then (expect s.Semicolon i) (λ u. domain)) _ (o, j) h (λ d k one rest.
     bind_then (expect s.Semicolon i) (λ u. domain) (d, k) one (λ u m semi reads.
-    bind_then (declarations (empty_table d) k) outline_over (o, j) rest (λ names l declares over.
-    let items = takes_then (head (empty_table d)) (takes_then (expect_found (empty_table d) s.Semicolon i m u semi) (domain_found (empty_table d) m k d reads)) in
-    let decls = declarations_found declaration_turns (empty_table d) names k l declares in
+    bind_then (declarations (empty_table d known_version) k) outline_over (o, j) rest (λ names l declares over.
+    let items = takes_then (head (empty_table d known_version)) (takes_then (expect_found (empty_table d known_version) s.Semicolon i m u semi) (domain_found (empty_table d known_version) m k d reads)) in
+    let decls = declarations_found declaration_turns (empty_table d known_version) names k l declares in
     let is = over_found names l j o over in
     let same = sym is.names_are in
     record {
@@ -199,7 +199,7 @@ outline_found bytes i j o head h =
       threads_at = is.threads_at;
       domain = d;
       head = items.stand;
-      declared = subst (λ n. AreDeclarations (empty_table d) k.cursor n l.cursor) same decls.is;
+      declared = subst (λ n. AreDeclarations (empty_table d known_version) k.cursor n l.cursor) same decls.is;
       pre = subst (λ n. IsGiven IsRaw n w.Pre l.cursor o.pre is.crash_at) same is.pre;
       crash = subst (λ n. IsGiven IsCrash n w.Crash is.crash_at o.crash is.threads_at) same is.crash;
       threads = subst (λ n. AreThreads n 1 is.threads_at o.threads) same is.threads;

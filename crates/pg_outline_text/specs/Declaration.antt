@@ -2,7 +2,7 @@
 --
 --   decl = "location" NAME "=" NUMBER ";" | "register" NAME "of" NUMBER ";" | "auxiliary" NAME ";"
 --
--- A name is a new word that is not reserved.
+-- A name is a new word that is not reserved. Each location begins a line: no text has one on the line of another.
 use Rattle.std.specs.Prelude.{ℕ, zero, suc, Bool, true, false, if◌then◌else◌, List, Option, Some, None, Result, Ok, Err}
 use Rattle.pg_lex.specs.declared.token.Sign.TheVariants as s
 use Rattle.pg_lex.specs.declared.token.TokenKind.{TokenKind}

@@ -4,7 +4,8 @@
 --   decl = "location" NAME "=" NUMBER ";" | "register" NAME "of" NUMBER ";" | "auxiliary" NAME ";"
 --   thread = "thread" NUMBER "{" body "}"
 --
--- Threads are numbered from 1 in the order of the text. The relations say what stands from one place of a text to another.
+-- Threads are numbered from 1 in the order of the text. The names are of the version of the text, and each location begins a line.
+-- The relations say what stands from one place of a text to another.
 use Rattle.std.specs.Prelude.{◌≡◌, ℕ, ◌+◌, ◌≤◌, false, List, [], ◌∷◌, length, None, Ok}
 use Rattle.pg_lex.specs.declared.token.Sign.TheVariants as s
 use Rattle.pg_lex.specs.declared.token.TokenKind.TheVariants as kind
@@ -100,9 +101,9 @@ pub record IsSourceText (text : List ℕ) (o : Source) : Type 0 where
   pub crash_at : Cursor
   pub threads_at : Cursor
   pub domain : ℕ
-  pub head : Stand (empty_table domain)
+  pub head : Stand (empty_table domain known_version)
       (keyword w.Pierogi ∷ number known_version ∷ sign s.Semicolon ∷ keyword w.Values ∷ number domain ∷ sign s.Semicolon ∷ []) (start text) decls
-  pub declared : AreDeclarations (empty_table domain) decls o.names pre_at
+  pub declared : AreDeclarations (empty_table domain known_version) decls o.names pre_at
   pub pre : IsGiven IsRaw o.names w.Pre pre_at o.pre crash_at
   pub crash : IsGiven IsCrash o.names w.Crash crash_at o.crash threads_at
   pub threads : AreThreads o.names 1 threads_at o.threads

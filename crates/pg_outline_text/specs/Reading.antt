@@ -22,7 +22,7 @@ use Rattle.pg_assertion_text.specs.Parsing.{formula_at}
 use Rattle.pg_program_text.specs.Stmt.{behind}
 use Rattle.pg_program_text.specs.Thread.{Lines, thread_at}
 use Rattle.pg_outline_text.specs.declared.word.Keyword.TheVariants as w
-use Rattle.pg_outline_text.specs.Limits.{most_threads}
+use Rattle.pg_outline_text.specs.Limits.{known_version, most_threads}
 use Rattle.pg_outline_text.specs.Word.{is_keyword, expect_word}
 use Rattle.pg_outline_text.specs.Declaration.{last_number, declarations}
 use Rattle.pg_outline_text.specs.Source.{Source}
@@ -130,7 +130,7 @@ outline_over names = do
 unfoldable pub outline : Parser Source
 outline = do
   d ← (expect s.Semicolon >> domain)
-  names ← declarations (empty_table d)
+  names ← declarations (empty_table d known_version)
   outline_over names
 
 -- `pierogi NUMBER`

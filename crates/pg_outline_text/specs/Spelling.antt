@@ -5,7 +5,7 @@ use Rattle.std.specs.List.{flat_map}
 use Rattle.pg_program.specs.declared.name_table.ScalarKind.{ScalarKind}
 use Rattle.pg_program.specs.declared.name_table.ScalarKind.TheVariants.{Register, Auxiliary}
 use Rattle.pg_program.specs.declared.syntax.Stmt.{Stmt}
-use Rattle.pg_program.specs.NameTable.{NameTable}
+use Rattle.pg_program.specs.NameTable.{NameTable, Location}
 use Rattle.pg_assertion.specs.declared.atom.ViewAtom.{ViewAtom}
 use Rattle.pg_assertion.specs.Formula.{Plain, top, bottom, atom, neg, both, either, implies}
 use Rattle.pg_assertion_text.specs.Spelling.{spell, spell_atom, spell_crash}
@@ -14,8 +14,12 @@ use Rattle.pg_outline.specs.Outline.{OutlineTable}
 
 -- ---- names
 
-unfoldable pub location_line : List ℕ × ℕ → List ℕ
-location_line e = codes "location " ++ (e.0 ++ (codes " = " ++ (decimal e.1 ++ codes ";\n")))
+-- the line of a location, by its name and its initial value
+unfoldable pub location_line : List ℕ → ℕ → List ℕ
+location_line name init = codes "location " ++ (name ++ (codes " = " ++ (decimal init ++ codes ";\n")))
+
+abbrev pub location_lines : List Location → List ℕ
+location_lines ls = flat_map (λ l. location_line l.name l.init) ls
 
 abbrev pub scalar_line : List ℕ × ScalarKind → List ℕ
 scalar_line (name, Register owner) = codes "register " ++ (name ++ (codes " of " ++ (decimal owner ++ codes ";\n")))
@@ -60,7 +64,7 @@ unfoldable pub domain_line : ℕ → List ℕ
 domain_line size = codes "values " ++ (decimal size ++ codes ";\n")
 
 unfoldable pub head_lines : NameTable → List ℕ
-head_lines names = version_line ++ (domain_line names.domain ++ (flat_map location_line names.locations ++ flat_map scalar_line names.scalars))
+head_lines names = version_line ++ (domain_line names.domain ++ (location_lines names.locations ++ flat_map scalar_line names.scalars))
 
 unfoldable pub spell_outline : OutlineTable → List ℕ
 spell_outline o =

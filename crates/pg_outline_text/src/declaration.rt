@@ -4,7 +4,7 @@ ghost use Rattle.std.specs.Prelude.{◌≡◌, MatchResult, IfOk, Err, Ok, None,
 ghost use Rattle.pg_assertion_text.specs.Input.{Does};
 ghost use Rattle.pg_assertion_text.specs.Words.{IsText};
 ghost use Rattle.pg_lex.specs.Lex.{lexeme};
-ghost use Rattle.pg_program.specs.NameTable.{with_name, find, is_full};
+ghost use Rattle.pg_program.specs.NameTable.{with_name, find, is_full, MayJoin};
 ghost use Rattle.pg_outline_text.specs.Declaration as spec;
 ghost use Rattle.pg_outline_text.specs.Reads.{ReadsNames, ReadsMore};
 ghost use Rattle.pg_lex.specs.declared.fault.TextFault.TheVariants.{NoMemory};
@@ -13,10 +13,10 @@ use crate::word::{Keyword, expect_word, is_keyword};
 use pg_assertion_text::Tokens;
 use pg_assertion_text::tokens::{is_reserved, refused};
 use pg_lex::{Sign, TextFault, TextKind, Token, TokenKind};
-use pg_program::{DeclareFault, NameKind, Names};
+use pg_program::{DeclareFault, MAX_LOCATIONS, MAX_SCALARS, NameKind, Names};
 
-/// One turn more than there may be declarations.
-pub const MAX_DECLARATIONS: u32 = 23;
+/// How many declarations a text may have.
+pub const MAX_DECLARATIONS: u32 = MAX_LOCATIONS as u32 + MAX_SCALARS as u32;
 
 /// The name that a token declares, or why it declares none.
 #[tactic(auto, unfolding(crate::specs::Declaration::new_name_in))]
@@ -63,7 +63,8 @@ fn take_name<'a>(
 
 /// Declares a name that is new.
 fn declare(names: &mut Names, name: &str, kind: NameKind) -> Result<(), TextFault>
-    requires { (find name.now names.old ≡ None) × (is_full kind names.old ≡ false) }
+    requires new { (find name.now names.old ≡ None) × (is_full kind names.old ≡ false) }
+    requires join { MayJoin kind names.old }
     ensures { MatchResult result (λ _. names.new ≡ with_name name.now kind names.old) (λ e. e ≡ NoMemory) }
 {
     match names.declare(name, kind) {
@@ -152,7 +153,7 @@ fn declaration(tokens: &mut Tokens<'_>, names: &mut Names) -> Result<bool, TextF
 pub fn declarations(tokens: &mut Tokens<'_>, names: &mut Names) -> Result<(), TextFault>
     ensures { ReadsNames (spec.declarations names.old tokens.old) result names.new tokens.new }
 {
-    'declarations: for _i in 0..MAX_DECLARATIONS {
+    'declarations: for _i in 0..MAX_DECLARATIONS + 1 {
         if !declaration(tokens, names)? {
             return Ok(());
         }

@@ -21,6 +21,7 @@ mod thread;
 mod word;
 
 pub use fault::FileFault;
-pub use parse::{VERSION, parse_outline};
+pub use parse::parse_outline;
 pub use print::print_outline;
+pub use source::VERSION;
 pub use thread::MAX_THREADS;

@@ -6,13 +6,14 @@ ghost use Rattle.pg_outline.specs.Outline.{OutlineTable as Table};
 ghost use Rattle.pg_program_text.specs.Text.{lines};
 ghost use Rattle.pg_outline_text.specs.Fault.{plain_fault, source_of, fault_in, plain_text_fault, plain_outline_fault, of_program, IsFaultOrMemory};
 ghost use Rattle.pg_program.specs.Fault as program;
+ghost use Rattle.pg_outline_text.specs.Limits.{known_version};
 ghost use Rattle.pg_outline_text.specs.Parts.{as_source};
 ghost use Rattle.pg_outline_text.specs.Ready.{IsReady};
 ghost use Rattle.pg_outline_text.specs.Source.{IsMadeOf};
 ghost use Rattle.pg_outline_text.specs.Text.{StandsFor, Tells};
 
 use crate::fault::FileFault;
-use crate::source::{Source, behind_version, version};
+use crate::source::{Source, VERSION, behind_version, version};
 use crate::thread::MAX_THREADS;
 use pg_assertion::{CrashAtom, Formula, RawAtom};
 use pg_assertion_text::Tokens;
@@ -22,14 +23,12 @@ use pg_program::{Names, Program, ProgramFault, Stmt};
 use pg_program_text::ThreadText;
 use std::alloc::{AllocError, Global};
 
-/// The version that this reader knows.
-pub const VERSION: u32 = 1;
-
 /// The outline that a text stands for, or the first fault of the text: a fault of its tokens or its version in the order of the
 /// text, then one of the program, then one of the formulas.
 pub fn parse_outline(alloc: Global, text: &[u8]) -> Result<Outline, FileFault>
     requires { length text.now < 2 ^ 32 }
     ensures found { IfOk result (λ o. StandsFor text.now o) }
+    ensures version { IfOk result (λ o. o.program.names.version ≡ known_version) }
     ensures only { (o : Table) → StandsFor text.now o → MatchResult result (λ p. p ≡ o) (λ e. e ≡ FileFault.NoMemory) }
     ensures first_fault { IfErr result (λ e. Tells text.now e) }
     ensures memory { IfErr result IsFaultOrMemory }

@@ -1,6 +1,6 @@
 //! Outlines, printed in their canonical text, one item on each line.
 
-ghost use Rattle.std.specs.Prelude.{◌≡◌, ◌-◌, ◌<◌, ◌≤◌, ◌++◌, [], length, decimal, codes, slice_index_or, IfOk, OnOk};
+ghost use Rattle.std.specs.Prelude.{◌≡◌, ◌-◌, ◌<◌, ◌≤◌, ◌++◌, [], length, decimal, codes, slice_get, slice_index_or, IfOk, IfSome, OnOk};
 ghost use Rattle.std.specs.List.{flat_map};
 ghost use Rattle.pg_assertion.specs.Formula.{plain, AllAtoms};
 ghost use Rattle.pg_assertion.specs.Atom.{NamesDeclared, CrashDeclared};
@@ -8,6 +8,7 @@ ghost use Rattle.pg_assertion_text.specs.Spelling.{spell_atom, spell_crash};
 ghost use Rattle.pg_program.specs.Program.{thread_of};
 ghost use Rattle.pg_program.specs.declared.name_table.ScalarKind.TheVariants.{Register, Auxiliary};
 ghost use Rattle.pg_outline.specs.Made.{IsOutline};
+ghost use Rattle.pg_outline_text.specs.Limits.{known_version};
 ghost use Rattle.pg_outline_text.specs.Spelling as spec;
 ghost use Rattle.pg_outline_text.specs.SpellingLaws.{IsWritableOutline};
 ghost use Rattle.pg_outline_text.specs.Text.{StandsFor};
@@ -20,9 +21,10 @@ use pg_program::{NameKind, Names};
 use pg_program_text::print_thread;
 use std::alloc::{AllocError, Global};
 
-/// The canonical text of an outline. Within the limits of a text it stands for this outline again, so that
-/// `parse_outline` gives it back.
+/// The canonical text of an outline of version 1; one of version 2 has no text yet. Within the limits of a text it stands for this
+/// outline again, so that `parse_outline` gives it back.
 pub fn print_outline(alloc: Global, o: &Outline) -> Result<Vec<u8>, AllocError>
+    requires { o.now.program.names.version ≡ known_version }
     ensures text { IfOk result (λ v. v.items ≡ spec.spell_outline o.now) }
     ensures again { IsWritableOutline o.now → StandsFor (spec.spell_outline o.now) o.now }
 {
@@ -75,7 +77,7 @@ fn put_domain(size: u32, into: &mut Vec<u8>) -> Result<(), AllocError>
 /// Appends a line for each location.
 #[tactic(auto, using(std::proofs::lemmas::List::drop_more))]
 fn put_locations(names: &Names, into: &mut Vec<u8>) -> Result<(), AllocError>
-    ensures { OnOk result (into.new.items ≡ into.old.items ++ flat_map spec.location_line names.now.locations) }
+    ensures { OnOk result (into.new.items ≡ into.old.items ++ spec.location_lines names.now.locations) }
 {
     'locations: for x in 0..names.locations() {
         put_location(names, x, into)?;
@@ -87,7 +89,7 @@ fn put_locations(names: &Names, into: &mut Vec<u8>) -> Result<(), AllocError>
 #[tactic(auto, using(crate::proofs::SpellingParts::location_entry))]
 fn put_location(names: &Names, x: u8, into: &mut Vec<u8>) -> Result<(), AllocError>
     requires { x < length names.now.locations }
-    ensures { OnOk result (into.new.items ≡ into.old.items ++ spec.location_line (slice_index_or names.now.locations x ([], 0))) }
+    ensures { OnOk result (IfSome (slice_get names.now.locations x) (λ l. into.new.items ≡ into.old.items ++ spec.location_line l.name l.init)) }
 {
     put_declared(names.location_name(x).as_bytes(), names.init(x), into)
 }
@@ -95,7 +97,7 @@ fn put_location(names: &Names, x: u8, into: &mut Vec<u8>) -> Result<(), AllocErr
 /// Appends the line of a location with this name and this initial value.
 #[tactic(auto, unfolding(crate::specs::Spelling::location_line))]
 fn put_declared(name: &[u8], init: u32, into: &mut Vec<u8>) -> Result<(), AllocError>
-    ensures { OnOk result (into.new.items ≡ into.old.items ++ spec.location_line (name.now, init)) }
+    ensures { OnOk result (into.new.items ≡ into.old.items ++ spec.location_line name.now init) }
 {
     into.extend_from_slice(b"location ")?;
     into.extend_from_slice(name)?;
@@ -125,7 +127,7 @@ fn put_scalar(names: &Names, r: u8, into: &mut Vec<u8>) -> Result<(), AllocError
     match names.kind(r) {
         NameKind::Register { owner } => put_register(name, owner, into),
         NameKind::Auxiliary => put_auxiliary(name, into),
-        NameKind::Location { .. } => unreachable!(),
+        NameKind::Location { .. } | NameKind::LocationWith { .. } => unreachable!(),
     }
 }
 

@@ -16,6 +16,9 @@ use pg_program::Names;
 use pg_program_text::ThreadText;
 use std::alloc::Global;
 
+/// The version that this reader knows.
+pub const VERSION: u32 = 1;
+
 /// What a text is read as: the names, the formulas that stand before the threads, and the threads.
 #[derive(Drop)]
 pub struct Source {
@@ -66,7 +69,7 @@ pub fn behind_version(alloc: Global, tokens: &mut Tokens<'_>) -> Result<Source, 
 {
     tokens.expect(Sign::Semicolon)?;
     let domain = domain(tokens)?;
-    let mut names = Names::make(alloc, domain);
+    let mut names = Names::make(alloc, domain, VERSION);
     declarations(tokens, &mut names)?;
     source_over(alloc, tokens, names)
 }
