@@ -75,7 +75,6 @@ fn put_domain(size: u32, into: &mut Vec<u8>) -> Result<(), AllocError>
 }
 
 /// Appends a line for each location.
-#[tactic(auto, using(std::proofs::lemmas::List::drop_more))]
 fn put_locations(names: &Names, into: &mut Vec<u8>) -> Result<(), AllocError>
     ensures { OnOk result (into.new.items ≡ into.old.items ++ spec.location_lines names.now.locations) }
 {
