@@ -106,7 +106,10 @@ static CRASHES: [(&[u32], Result<(u8, u8), CrashFault>); 6] = [
             later: 1,
         }),
     ),
-    (&[1, 99], Err(CrashFault::NotAPosition { x: 1, position: 99 })),
+    (
+        &[1, 99],
+        Err(CrashFault::NotAPosition { x: 1, position: 99 }),
+    ),
 ];
 
 /// The positions of the first store alone, once the fence has committed both.

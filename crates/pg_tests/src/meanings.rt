@@ -134,7 +134,7 @@ struct Change {
 }
 
 /// The step after so many of the changes.
-fn change(alloc: Global, p: &Program, count: usize) -> Result<Change, Fail>
+fn change_after(alloc: Global, p: &Program, count: usize) -> Result<Change, Fail>
     requires { count < 4 }
     ensures { IfOk result (λ c. IsWellFormed p.now c.before.state × IsWellFormed p.now c.after.state × HasThread p.now c.event) }
 {
@@ -162,7 +162,7 @@ fn atoms_of_change(alloc: Global, p: &Program, count: usize) -> Result<String, F
         before,
         after,
         event,
-    } = change(alloc, p, count)?;
+    } = change_after(alloc, p, count)?;
     let mut text = String::new(alloc);
     for v in 0..3 {
         if holds_step_atom(p, event, &before, &after, &StepAtom::Value { v }) {

@@ -1,9 +1,18 @@
 //! Parts of outlines in any spelling, and their canonical text.
 
 use crate::texts::{agree, between, on};
-use pg_outline_text::print_outline;
+use pg_outline::Outline;
+use pg_outline_text::{VERSION, print_outline};
 use std::alloc::Global;
 use std::test::Fail;
+
+/// The canonical text of an outline that was read.
+fn printed(alloc: Global, o: &Outline) -> Result<Vec<u8>, Fail> {
+    if o.program().names().version() != VERSION {
+        return Err(Fail::new("the outline is of another version"));
+    }
+    Ok(print_outline(alloc, o)?)
+}
 
 /// Passes where the text between two canonical ones has this canonical spelling there.
 fn is_spelled(
@@ -14,7 +23,7 @@ fn is_spelled(
     behind: &[u8],
 ) -> Result<(), Fail> {
     let whole = between(alloc, front, text, behind)?;
-    let found = on(alloc, &whole, |o| Ok(print_outline(alloc, o)?))?;
+    let found = on(alloc, &whole, |o| printed(alloc, o))?;
     let wanted = between(alloc, front, spelling, behind)?;
     agree(found.as_slice(), wanted.as_slice(), text)
 }
@@ -183,6 +192,6 @@ const CANONICAL: &[u8] =
 #[test]
 fn items_have_their_lines(rt: HostRuntime) -> Result<(), Fail> {
     let alloc = rt.alloc();
-    let found = on(alloc, MIXED, |o| Ok(print_outline(alloc, o)?))?;
+    let found = on(alloc, MIXED, |o| printed(alloc, o))?;
     agree(found.as_slice(), CANONICAL, MIXED)
 }
