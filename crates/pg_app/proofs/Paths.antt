@@ -1,5 +1,5 @@
 -- An outline has at most one path, and the path that is found of it is that one.
-use Rattle.std.proofs.Common.{◌≡◌, Bool, true, false, List, [], ◌∷◌, ◌++◌, map, Option, Some, None, IsSome, unwrap_or, refl, sym, ap, ap₂, subst, ◌∙◌, append_assoc, ℕ, Vec, Global}
+use Rattle.std.proofs.Common.{◌≡◌, Bool, true, false, List, [], ◌∷◌, ◌++◌, map, Option, Some, None, IsSome, unwrap_or, refl, sym, ap, ap₂, ◌∙◌, append_assoc, ℕ, Vec, Global}
 use Rattle.std.proofs.lemmas.Simd.{map-map}
 use Rattle.std.proofs.lemmas.List.{append-nil}
 use Rattle.pg_assertion.specs.declared.atom.ViewAtom.{ViewAtom}

@@ -63,8 +63,8 @@ pub fn run<R: Room, K: Sink>(alloc: Global, words: &[String], room: &mut R, out:
         Writes words.now (R.told room.old) result (K.written out.old) (K.written out.new)
         ⊎ (result ≡ 9) }
 
-    // What acceptance claims: in every execution of the machine, of any length, the assertions hold,
-    // and after each crash the crash formula.
+    // What acceptance claims: in every execution of the machine, of any length and from any initial
+    // values, the assertions hold, and after each crash the crash formula.
     ensures safe { result ≡ 0 → IfSome (name_of words.now) (λ name.
         IfSome (R.told room.old name) (λ bytes. IsSafeText bytes)) }
 

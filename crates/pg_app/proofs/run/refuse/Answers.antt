@@ -1,8 +1,6 @@
 -- The line of the fault is the answer to each file with this first fault.
 use Rattle.pg_app.proofs.Faults.{tells_some, fault_put, fault_cut}
 use Rattle.pg_outline_text.specs.Fault.{plain_fault}
-use Rattle.std.proofs.Common.{◌≡◌, Ok, Err, ap, ◌∙◌}
-use Rattle.pg_report.specs.declared.fault.ReportFault.TheVariants.{Write}
 use Rattle.pg_app.proofs.run.refuse.Goals as goal
 
 pub returns-in-Ok : goal.returns-in-Ok
