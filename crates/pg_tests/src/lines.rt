@@ -7,7 +7,7 @@ use crate::meanings::{crashed, hold_behind};
 use crate::steps::Line;
 use crate::texts::{agree, lexer_of};
 use pg_program::{NameKind, Names, Program, Stmt};
-use pg_program_text::parse_thread;
+use pg_program_text::{ThreadText, parse_thread};
 use pg_views::CrashFault;
 use std::alloc::Global;
 use std::test::Fail;
@@ -60,8 +60,8 @@ fn thread(alloc: Global, names: &Names, text: &[u8]) -> Result<Vec<Stmt>, Fail>
     ensures { IfOk result (λ ss. IsThread names.now ss.items) }
 {
     let mut lexer = lexer_of(text)?;
-    let body = parse_thread(alloc, &mut lexer, names)?;
-    Ok(body.stmts)
+    let ThreadText { stmts, .. } = parse_thread(alloc, &mut lexer, names)?;
+    Ok(stmts)
 }
 
 /// The program of these threads, where x and y stand on one line.
