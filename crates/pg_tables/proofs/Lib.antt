@@ -1,0 +1,5 @@
+pub mod Sinks
+pub mod Lists
+pub mod Truth
+pub mod Bounds
+pub mod OneValue

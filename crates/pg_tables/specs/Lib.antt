@@ -1,0 +1,5 @@
+pub mod Clause
+pub mod Table
+pub mod Shapes
+pub mod Truth
+pub mod Bound
