@@ -1,0 +1,3 @@
+pub mod SetPairs
+pub mod AxiomsTrue
+pub mod AxiomsFew

@@ -1,0 +1,4 @@
+pub mod Axioms
+pub mod Places
+pub mod Truth
+pub mod Bound

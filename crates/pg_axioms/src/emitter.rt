@@ -1,0 +1,56 @@
+//! The axioms of a side, one after the other.
+
+ghost use Rattle.std.specs.Prelude.{◌≡◌, None};
+ghost use Rattle.pg_region.specs.Sink.{Emitted};
+ghost use Rattle.pg_tables.specs.Clause.{written};
+ghost use Rattle.pg_axioms.specs.Axioms.{axioms as axioms_of};
+
+use crate::rows::{
+    LastIsReadThen, LastIsShown, LastMayPersist, LastValues, NewestIsCovered, NewestLoadKeeps,
+    NewestReadIsLast, PendingMayPersist, ReadIsReadAgain, ScalarValues, ThenWasReadable,
+};
+use crate::sets::SetsNest;
+use pg_assertion::{Layout, Side};
+use pg_region::ClauseSink;
+use pg_tables::{ExactlyOne, PerLocation, PerScalar, PerThread, PerValue, Then, offer};
+
+/// Gives the axioms of a side to a sink, in their order. After a fault it has those before the one that it did not take.
+pub fn axioms<S: ClauseSink>(layout: &Layout, side: Side, into: &mut S) -> Result<(), S::Fault>
+    ensures { Emitted S.takes result (S.view into.old) (S.view into.new) (written (record { layout = layout.now; case = None }) (axioms_of layout.now side)) }
+{
+    let one_value = Then(
+        PerLocation(ExactlyOne(LastValues { side })),
+        PerScalar(ExactlyOne(ScalarValues { side })),
+    );
+    let last_is_shown = PerLocation(PerValue(Then(
+        LastMayPersist { side },
+        PerThread(LastIsShown { side }),
+    )));
+    let pending_may_persist = PerThread(PerLocation(PerValue(PendingMayPersist { side })));
+    let newest_read_is_last = PerThread(PerLocation(PerValue(NewestReadIsLast { side })));
+    let newest_is_covered = PerThread(PerLocation(NewestIsCovered { side }));
+    let then_was_readable = PerThread(PerLocation(PerValue(PerLocation(PerValue(ThenWasReadable {
+        side,
+    })))));
+    let last_is_read_then = Then(
+        PerThread(PerLocation(PerValue(PerLocation(PerValue(LastIsReadThen { side }))))),
+        PerThread(PerLocation(PerValue(ReadIsReadAgain { side }))),
+    );
+    let newest_load_keeps = PerThread(PerLocation(PerValue(PerLocation(PerValue(NewestLoadKeeps {
+        side,
+    })))));
+    let sets_nest = PerLocation(SetsNest { side });
+    let of_reads = Then(
+        then_was_readable,
+        Then(last_is_read_then, Then(newest_load_keeps, sets_nest)),
+    );
+    let of_views = Then(
+        pending_may_persist,
+        Then(newest_read_is_last, Then(newest_is_covered, of_reads)),
+    );
+    offer(
+        &Then(one_value, Then(last_is_shown, of_views)),
+        layout,
+        into,
+    )
+}
