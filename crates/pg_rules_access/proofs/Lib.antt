@@ -1,0 +1,3 @@
+pub mod TupleLists
+pub mod StmtOver
+pub mod Acts

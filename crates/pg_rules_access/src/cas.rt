@@ -1,0 +1,309 @@
+//! The rows of a cas.
+
+ghost use Rattle.std.specs.Prelude.{◌≡◌, ◌<◌, ◌∷◌, ◌++◌, [], ◌==◌, ◌&&◌, ◌||◌, length, None};
+ghost use Rattle.pg_assertion.specs.declared.atom.ViewAtom.{ViewAtom};
+ghost use Rattle.pg_assertion.specs.declared.atom.ViewAtom.TheVariants.{Last, Read, Then as SeenThen, Fenced};
+ghost use Rattle.pg_assertion.specs.Layout.{IsAtom, IsThreadNumber};
+ghost use Rattle.pg_rules_access.specs.Atoms.{before, after};
+ghost use Rattle.pg_rules_access.specs.Cas.{if_stored, cas_scalar, own_read, own_then, own_fenced, cas};
+
+use crate::atoms::{after, always, before, only_where};
+use crate::load::{Load, ReadThen};
+use crate::store::Store;
+use pg_assertion::{StepAtom, ViewAtom};
+use pg_program::Names;
+use pg_region::ClauseSink;
+use pg_tables::{
+    Case, PerValue, Rows, Setting, Then, Under, becomes, becomes_both, frame, implies,
+};
+
+/// A cas of a thread on a location, which reads into a scalar.
+#[derive(Clone, Copy)]
+pub struct Cas<'a> {
+    pub names: &'a Names,
+    pub thread: u8,
+    pub target: u8,
+    pub location: u8,
+}
+
+impl<'a> Cas<'a> {
+    // The store of a cas that succeeds, and whether it changes the atom.
+    fn if_stored(&self, changed: bool) -> IfStored<'a>
+        ensures names { result.names.now ≡ self.now.names.now }
+        ensures thread { result.thread ≡ self.now.thread }
+        ensures location { result.location ≡ self.now.location }
+        ensures changed { result.changed ≡ changed }
+    {
+        IfStored {
+            names: self.names,
+            thread: self.thread,
+            location: self.location,
+            changed,
+        }
+    }
+
+    // The load of a cas that fails.
+    fn load(&self) -> Load
+        ensures { result ≡ record { thread = self.now.thread; target = self.now.target; location = self.now.location } }
+    {
+        Load {
+            thread: self.thread,
+            target: self.target,
+            location: self.location,
+        }
+    }
+}
+
+impl<'a> Rows<ViewAtom> for Cas<'a> {
+    ghost rows = { λ l c i. cas l c.names.now c.thread c.target c.location i };
+
+    ghost fits = { λ s c i. (s.case ≡ None) × IsAtom s.layout i × (s.layout.locations ≡ length c.names.now.locations) × IsThreadNumber s.layout c.thread × (c.target < s.layout.scalars) × (c.location < s.layout.locations) };
+
+    fn offer_at<S: ClauseSink>(
+        &self,
+        i: ViewAtom,
+        setting: &Setting,
+        into: &mut S,
+    ) -> Result<(), S::Fault> {
+        match i {
+            ViewAtom::Scalar { r, k } => CasScalar { load: self.load() }.offer_at(
+                (r, k),
+                setting,
+                into,
+            ),
+            ViewAtom::Last { x, .. } => {
+                self.if_stored(x == self.location)
+                    .offer_at(i, setting, into)
+            }
+            ViewAtom::Read { t, x, v } => {
+                if t == self.thread {
+                    CasRead { load: self.load() }.offer_at((x, v), setting, into)
+                } else {
+                    self.if_stored(x == self.location)
+                        .offer_at(i, setting, into)
+                }
+            }
+            ViewAtom::Then { t, x, v, y, w } => {
+                if t == self.thread {
+                    CasThen.offer_at(((((self.thread, x), v), y), w), setting, into)
+                } else {
+                    self.if_stored(x == self.location || y == self.location)
+                        .offer_at(i, setting, into)
+                }
+            }
+            ViewAtom::Newest { t, x } | ViewAtom::Ordered { t, x } => {
+                if t == self.thread {
+                    let fenced = after(ViewAtom::Fenced { t, x });
+                    Then(
+                        Under(Case::Succeeds, always(after(i))),
+                        Under(Case::Fails, becomes(after(i), fenced)),
+                    )
+                    .offer_at((), setting, into)
+                } else {
+                    self.if_stored(x == self.location)
+                        .offer_at(i, setting, into)
+                }
+            }
+            ViewAtom::Fenced { t, x } => {
+                if t == self.thread {
+                    CasFenced {
+                        thread: self.thread,
+                        location: self.location,
+                    }
+                    .offer_at(x, setting, into)
+                } else {
+                    self.if_stored(x == self.location)
+                        .offer_at(i, setting, into)
+                }
+            }
+            _ => frame(i).offer_at((), setting, into),
+        }
+    }
+}
+
+/// An atom that a store would change: it is what the store makes it where the cas succeeds, and what it was where it fails.
+#[derive(Clone, Copy)]
+struct IfStored<'a> {
+    names: &'a Names,
+    thread: u8,
+    location: u8,
+    changed: bool,
+}
+
+impl<'a> Rows<ViewAtom> for IfStored<'a> {
+    ghost rows = { λ l c i. if_stored c.changed c.names.now c.thread c.location i };
+
+    ghost fits = { λ s c i. (s.case ≡ None) × IsAtom s.layout i × (s.layout.locations ≡ length c.names.now.locations) × (c.location < s.layout.locations) };
+
+    fn offer_at<S: ClauseSink>(
+        &self,
+        i: ViewAtom,
+        setting: &Setting,
+        into: &mut S,
+    ) -> Result<(), S::Fault> {
+        if self.changed {
+            let store = Store {
+                names: self.names,
+                thread: self.thread,
+                location: self.location,
+            };
+            Then(Under(Case::Succeeds, store), Under(Case::Fails, frame(i))).offer_at(
+                i, setting, into,
+            )
+        } else {
+            frame(i).offer_at((), setting, into)
+        }
+    }
+}
+
+/// A scalar, and a value of it.
+#[derive(Clone, Copy)]
+struct CasScalar {
+    load: Load,
+}
+
+impl Rows<(u8, u8)> for CasScalar {
+    ghost rows = { λ l c i. cas_scalar (i.0 == c.load.target) c.load.thread c.load.location i.0 i.1 };
+
+    ghost fits = { λ s c i. (s.case ≡ None) × (i.0 < s.layout.scalars) × (i.1 < s.layout.domain) × IsThreadNumber s.layout c.load.thread × (c.load.location < s.layout.locations) };
+
+    fn offer_at<S: ClauseSink>(
+        &self,
+        i: (u8, u8),
+        setting: &Setting,
+        into: &mut S,
+    ) -> Result<(), S::Fault> {
+        let (r, k) = i;
+        let atom = ViewAtom::Scalar { r, k };
+        if r == self.load.target {
+            let (t, x) = (self.load.thread, self.load.location);
+            let expected = StepAtom::Expected { v: k };
+            let read = before(ViewAtom::Read { t, x, v: k });
+            let fenced = before(ViewAtom::Fenced { t, x });
+            let last = before(ViewAtom::Last { x, v: k });
+            let fails = [
+                implies(&[after(atom), expected], &[]),
+                implies(&[after(atom)], &[read]),
+                implies(&[after(atom), fenced], &[last]),
+            ];
+            Then(
+                Under(Case::Succeeds, becomes(after(atom), expected)),
+                Under(Case::Fails, fails),
+            )
+            .offer_at((), setting, into)
+        } else {
+            frame(atom).offer_at((), setting, into)
+        }
+    }
+}
+
+/// What the acting thread may read of a location: the last value where the cas succeeds, and what a load leaves where it fails.
+#[derive(Clone, Copy)]
+struct CasRead {
+    load: Load,
+}
+
+impl Rows<(u8, u8)> for CasRead {
+    ghost rows = { λ l c i. own_read l c.load.thread c.load.target c.load.location i.0 i.1 };
+
+    ghost fits = { λ s c i. (s.case ≡ None) × IsAtom s.layout (Read c.load.thread i.0 i.1) × (c.load.target < s.layout.scalars) × (c.load.location < s.layout.locations) };
+
+    fn offer_at<S: ClauseSink>(
+        &self,
+        i: (u8, u8),
+        setting: &Setting,
+        into: &mut S,
+    ) -> Result<(), S::Fault> {
+        let (x, v) = i;
+        let atom = ViewAtom::Read {
+            t: self.load.thread,
+            x,
+            v,
+        };
+        let last = after(ViewAtom::Last { x, v });
+        let read_then = PerValue(ReadThen {
+            load: self.load,
+            location: x,
+            value: v,
+        });
+        Then(
+            Under(Case::Succeeds, becomes(after(atom), last)),
+            Under(
+                Case::Fails,
+                Then(only_where(after(atom), before(atom)), read_then),
+            ),
+        )
+        .offer_at((), setting, into)
+    }
+}
+
+/// What the acting thread may read, and then read: last values where the cas succeeds, and less than before where it fails.
+#[derive(Clone, Copy)]
+struct CasThen;
+
+impl Rows<((((u8, u8), u8), u8), u8)> for CasThen {
+    ghost rows = { λ l c i. own_then (i.0.0.0.1 == i.0.1 && i.0.0.1 == i.1) i.0.0.0.0 i.0.0.0.1 i.0.0.1 i.0.1 i.1 };
+
+    ghost fits = { λ s c i. (s.case ≡ None) × IsAtom s.layout (SeenThen i.0.0.0.0 i.0.0.0.1 i.0.0.1 i.0.1 i.1) };
+
+    fn offer_at<S: ClauseSink>(
+        &self,
+        i: ((((u8, u8), u8), u8), u8),
+        setting: &Setting,
+        into: &mut S,
+    ) -> Result<(), S::Fault> {
+        let ((((t, x), v), y), w) = i;
+        let atom = ViewAtom::Then { t, x, v, y, w };
+        let first = after(ViewAtom::Last { x, v });
+        let second = after(ViewAtom::Last { x: y, v: w });
+        let fails = Under(Case::Fails, only_where(after(atom), before(atom)));
+        if x == y && v == w {
+            Then(Under(Case::Succeeds, becomes(after(atom), first)), fails).offer_at(
+                (),
+                setting,
+                into,
+            )
+        } else {
+            Then(
+                Under(Case::Succeeds, becomes_both(after(atom), first, second)),
+                fails,
+            )
+            .offer_at((), setting, into)
+        }
+    }
+}
+
+/// What the acting thread's flushes of a location are ordered after.
+#[derive(Clone, Copy)]
+struct CasFenced {
+    thread: u8,
+    location: u8,
+}
+
+impl Rows<u8> for CasFenced {
+    ghost rows = { λ l c i. own_fenced (i == c.location) c.thread c.location i };
+
+    ghost fits = { λ s c i. (s.case ≡ None) × IsAtom s.layout (Fenced c.thread i) × (c.location < s.layout.locations) };
+
+    fn offer_at<S: ClauseSink>(
+        &self,
+        i: u8,
+        setting: &Setting,
+        into: &mut S,
+    ) -> Result<(), S::Fault> {
+        let t = self.thread;
+        let atom = ViewAtom::Fenced { t, x: i };
+        let succeeds = Under(Case::Succeeds, always(after(atom)));
+        let grows = implies(&[before(atom)], &[after(atom)]);
+        if i == self.location {
+            Then(succeeds, Under(Case::Fails, [grows])).offer_at((), setting, into)
+        } else {
+            let fenced = before(ViewAtom::Fenced {
+                t,
+                x: self.location,
+            });
+            let kept = implies(&[fenced, after(atom)], &[before(atom)]);
+            Then(succeeds, Under(Case::Fails, [grows, kept])).offer_at((), setting, into)
+        }
+    }
+}

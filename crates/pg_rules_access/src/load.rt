@@ -1,0 +1,179 @@
+//! The rows of an assignment to a scalar, and of a load.
+
+ghost use Rattle.std.specs.Prelude.{◌≡◌, ◌<◌, ◌∷◌, ◌++◌, [], ◌==◌};
+ghost use Rattle.pg_assertion.specs.declared.atom.ViewAtom.{ViewAtom};
+ghost use Rattle.pg_assertion.specs.declared.atom.ViewAtom.TheVariants.{Scalar, Read, Then as SeenThen};
+ghost use Rattle.pg_assertion.specs.Layout.{IsAtom, IsThreadNumber};
+ghost use Rattle.pg_tables.specs.Clause.{implies};
+ghost use Rattle.pg_rules_access.specs.Atoms.{before, after};
+ghost use Rattle.pg_rules_access.specs.Load.{assign, load, read_then, load_loses, load_gains};
+
+use crate::atoms::{after, before, only_where};
+use pg_assertion::{StepAtom, ViewAtom};
+use pg_region::ClauseSink;
+use pg_tables::{Clause, PerValue, Rows, Setting, Then, becomes, frame, implies};
+
+/// An assignment to a scalar.
+#[derive(Clone, Copy)]
+pub struct Assign {
+    pub target: u8,
+}
+
+impl Rows<ViewAtom> for Assign {
+    ghost rows = { λ l c i. assign c.target i };
+
+    ghost fits = { λ s c i. IsAtom s.layout i };
+
+    fn offer_at<S: ClauseSink>(
+        &self,
+        i: ViewAtom,
+        setting: &Setting,
+        into: &mut S,
+    ) -> Result<(), S::Fault> {
+        match i {
+            ViewAtom::Scalar { r, k } => {
+                if r == self.target {
+                    becomes(after(i), StepAtom::Value { v: k }).offer_at((), setting, into)
+                } else {
+                    frame(i).offer_at((), setting, into)
+                }
+            }
+            _ => frame(i).offer_at((), setting, into),
+        }
+    }
+}
+
+/// A load of a thread from a location into a scalar.
+#[derive(Clone, Copy)]
+pub struct Load {
+    pub thread: u8,
+    pub target: u8,
+    pub location: u8,
+}
+
+impl Rows<ViewAtom> for Load {
+    ghost rows = { λ l c i. load l c.thread c.target c.location i };
+
+    ghost fits = { λ s c i. IsAtom s.layout i × IsThreadNumber s.layout c.thread × (c.target < s.layout.scalars) × (c.location < s.layout.locations) };
+
+    fn offer_at<S: ClauseSink>(
+        &self,
+        i: ViewAtom,
+        setting: &Setting,
+        into: &mut S,
+    ) -> Result<(), S::Fault> {
+        let newest = before(ViewAtom::Newest {
+            t: self.thread,
+            x: self.location,
+        });
+        match i {
+            ViewAtom::Scalar { r, k } => {
+                if r == self.target {
+                    let read = before(ViewAtom::Read {
+                        t: self.thread,
+                        x: self.location,
+                        v: k,
+                    });
+                    only_where(after(i), read).offer_at((), setting, into)
+                } else {
+                    frame(i).offer_at((), setting, into)
+                }
+            }
+            ViewAtom::Read { t, x, v } => {
+                if t == self.thread {
+                    let read_then = PerValue(ReadThen {
+                        load: *self,
+                        location: x,
+                        value: v,
+                    });
+                    let kept = [implies(&[newest, before(i)], &[after(i)])];
+                    Then(only_where(after(i), before(i)), Then(read_then, kept)).offer_at(
+                        (),
+                        setting,
+                        into,
+                    )
+                } else {
+                    frame(i).offer_at((), setting, into)
+                }
+            }
+            ViewAtom::Then { t, .. } => {
+                if t == self.thread {
+                    loses(newest, i).offer_at((), setting, into)
+                } else {
+                    frame(i).offer_at((), setting, into)
+                }
+            }
+            ViewAtom::Newest { t, .. } | ViewAtom::Ordered { t, .. } | ViewAtom::Fenced { t, .. } =>
+                {
+                    if t == self.thread {
+                        gains(newest, i).offer_at((), setting, into)
+                    } else {
+                        frame(i).offer_at((), setting, into)
+                    }
+                }
+            _ => frame(i).offer_at((), setting, into),
+        }
+    }
+}
+
+/// What a thread reads of a location at a load, or at a cas that fails, it could read after the value that this gave.
+#[derive(Clone, Copy)]
+pub struct ReadThen {
+    pub load: Load,
+    pub location: u8,
+    pub value: u8,
+}
+
+impl Rows<((), u8)> for ReadThen {
+    ghost rows = { λ l c i. implies (after (Scalar c.load.target i.1) ∷ after (Read c.load.thread c.location c.value) ∷ []) (before (SeenThen c.load.thread c.load.location i.1 c.location c.value) ∷ []) ∷ [] };
+
+    ghost fits = { λ s c i. IsAtom s.layout (Scalar c.load.target i.1) × IsAtom s.layout (SeenThen c.load.thread c.load.location i.1 c.location c.value) };
+
+    fn offer_at<S: ClauseSink>(
+        &self,
+        i: ((), u8),
+        setting: &Setting,
+        into: &mut S,
+    ) -> Result<(), S::Fault> {
+        let (_, v) = i;
+        let Load {
+            thread,
+            target,
+            location,
+        } = self.load;
+        let loaded = after(ViewAtom::Scalar { r: target, k: v });
+        let read = after(ViewAtom::Read {
+            t: thread,
+            x: self.location,
+            v: self.value,
+        });
+        let then = before(ViewAtom::Then {
+            t: thread,
+            x: location,
+            v,
+            y: self.location,
+            w: self.value,
+        });
+        [implies(&[loaded, read], &[then])].offer_at((), setting, into)
+    }
+}
+
+// The atom only loses, and keeps where `newest` holds.
+fn loses(newest: StepAtom, atom: ViewAtom) -> [Clause; 2]
+    ensures { result ≡ implies (after atom ∷ []) (before atom ∷ []) ∷ implies (newest ∷ before atom ∷ []) (after atom ∷ []) ∷ [] }
+{
+    [
+        implies(&[after(atom)], &[before(atom)]),
+        implies(&[newest, before(atom)], &[after(atom)]),
+    ]
+}
+
+// The atom only gains, and keeps where `newest` holds.
+fn gains(newest: StepAtom, atom: ViewAtom) -> [Clause; 2]
+    ensures { result ≡ implies (before atom ∷ []) (after atom ∷ []) ∷ implies (newest ∷ after atom ∷ []) (before atom ∷ []) ∷ [] }
+{
+    [
+        implies(&[before(atom)], &[after(atom)]),
+        implies(&[newest, after(atom)], &[before(atom)]),
+    ]
+}
