@@ -1,6 +1,6 @@
 -- The access rules of a step: how its values, its scalars, the last values of locations and what threads may read after it come
 -- of what was before it. They are given as clauses, in their order.
-use Rattle.std.specs.Prelude.{◌≡◌, ℕ, ◌<◌, ◌≤◌, List, [], ◌++◌, Option, Some, None, length, map}
+use Rattle.std.specs.Prelude.{◌≡◌, ℕ, ◌<◌, List, [], ◌++◌, Option, Some, None, length, map}
 use Rattle.pg_assertion.specs.declared.atom.ViewAtom.{ViewAtom}
 use Rattle.pg_assertion.specs.declared.step_atom.StepAtom.TheVariants.{Value, Expected}
 use Rattle.pg_assertion.specs.Layout.{Sizes, sizes, IsThreadNumber}
@@ -11,9 +11,8 @@ use Rattle.pg_program.specs.declared.syntax.Stmt.{Stmt, out-Stmt}
 use Rattle.pg_program.specs.declared.syntax.Act.{Act, out-Act}
 use Rattle.pg_program.specs.declared.syntax.Act.TheOpen.{Act-F, Assign, Store, Load, Cas, Mfence, Sfence, Flush, Flushopt, If, While}
 use Rattle.pg_program.specs.Expr.{reads}
-use Rattle.pg_program.specs.Graph.{step_of}
 use Rattle.pg_program.specs.NameTable.{NameTable}
-use Rattle.pg_program.specs.Program.{ProgramTable, points, stmt_at, steps_at}
+use Rattle.pg_program.specs.Program.{ProgramTable, stmt_at}
 use Rattle.pg_tables.specs.declared.clause.StepLiteral.{StepLiteral}
 use Rattle.pg_tables.specs.Shapes.{frame}
 use Rattle.pg_rules_access.specs.Atoms.{scalar_rows, access_rows}
@@ -90,9 +89,3 @@ pub record IsOf (l : Sizes) (names : NameTable) (s : ℕ) (aux : List AuxAssign)
   pub locations : l.locations ≡ length names.locations
   pub thread : IsThreadNumber l s
   pub assigns : AreAssigns l aux
-
--- a step of the program: from a point of one of its threads
-pub record IsStepOf (p : ProgramTable) (step : Step) : Type 0 where
-  pub thread : (1 ≤ step.thread) × (step.thread ≤ length p.threads)
-  pub point : (1 ≤ step.point) × (step.point ≤ points p step.thread)
-  pub leads : step_of step.branch (steps_at p step.thread step.point) ≡ Some step

@@ -1,32 +1,11 @@
 -- How the rows of a statement make a table: a row for each atom after the step, in the order of the atoms' numbers.
-use Rattle.std.specs.Prelude.{ℕ, not, List, [], ◌∷◌, ◌++◌}
+use Rattle.std.specs.Prelude.{ℕ, not, List, ◌++◌}
 use Rattle.pg_assertion.specs.declared.atom.ViewAtom.{ViewAtom}
 use Rattle.pg_assertion.specs.declared.atom.ViewAtom.TheVariants.{Scalar, Last, Read, Then, Newest, Ordered, Fenced}
-use Rattle.pg_assertion.specs.declared.layout.Side.TheVariants.{Before, After}
-use Rattle.pg_assertion.specs.declared.step_atom.StepAtom.{StepAtom}
-use Rattle.pg_assertion.specs.declared.step_atom.StepAtom.TheVariants.{On}
 use Rattle.pg_assertion.specs.Layout.{Sizes}
 use Rattle.pg_program.specs.Words.{is_in}
 use Rattle.pg_tables.specs.declared.clause.StepLiteral.{StepLiteral}
-use Rattle.pg_tables.specs.Clause.{implies}
 use Rattle.pg_tables.specs.Table.{when, per_thread, per_location, per_value, per_scalar}
-
--- an atom before the step, and after it
-abbrev pub before : ViewAtom → StepAtom
-before a = On a Before
-
-abbrev pub after : ViewAtom → StepAtom
-after a = On a After
-
--- `a => b`; `=> a`; `a =>`
-abbrev pub only_where : StepAtom → StepAtom → List (List StepLiteral)
-only_where a b = implies (a ∷ []) (b ∷ []) ∷ []
-
-abbrev pub always : StepAtom → List (List StepLiteral)
-always a = implies [] (a ∷ []) ∷ []
-
-abbrev pub never : StepAtom → List (List StepLiteral)
-never a = implies (a ∷ []) [] ∷ []
 
 -- the rows of the scalars, without those that the bracket assigns
 abbrev pub scalar_rows : Sizes → List ℕ → (ViewAtom → List (List StepLiteral)) → List (List StepLiteral)

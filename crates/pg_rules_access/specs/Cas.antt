@@ -9,8 +9,7 @@ use Rattle.pg_tables.specs.declared.clause.Case.TheVariants.{Succeeds, Fails}
 use Rattle.pg_tables.specs.declared.clause.StepLiteral.{StepLiteral}
 use Rattle.pg_tables.specs.Clause.{implies}
 use Rattle.pg_tables.specs.Table.{under}
-use Rattle.pg_tables.specs.Shapes.{frame, becomes, becomes_both}
-use Rattle.pg_rules_access.specs.Atoms.{before, after, only_where, always}
+use Rattle.pg_tables.specs.Shapes.{before, after, only_where, always, frame, becomes, becomes_both}
 use Rattle.pg_rules_access.specs.Store.{store}
 use Rattle.pg_rules_access.specs.Load.{read_then}
 

@@ -3,8 +3,7 @@ use Rattle.std.specs.Prelude.{ℕ, Bool, true, false, ◌==◌, List}
 use Rattle.pg_assertion.specs.declared.atom.ViewAtom.{ViewAtom}
 use Rattle.pg_assertion.specs.declared.atom.ViewAtom.TheVariants.{Read, Then, Newest, Ordered, Fenced}
 use Rattle.pg_tables.specs.declared.clause.StepLiteral.{StepLiteral}
-use Rattle.pg_tables.specs.Shapes.{frame, becomes}
-use Rattle.pg_rules_access.specs.Atoms.{before, after, only_where}
+use Rattle.pg_tables.specs.Shapes.{before, after, only_where, frame, becomes}
 
 -- an atom only loses, where its thread is s
 abbrev pub fence_loses : Bool → ViewAtom → List (List StepLiteral)

@@ -7,8 +7,7 @@ use Rattle.pg_assertion.specs.Layout.{Sizes}
 use Rattle.pg_tables.specs.declared.clause.StepLiteral.{StepLiteral}
 use Rattle.pg_tables.specs.Clause.{implies}
 use Rattle.pg_tables.specs.Table.{per_value}
-use Rattle.pg_tables.specs.Shapes.{frame, becomes}
-use Rattle.pg_rules_access.specs.Atoms.{before, after, only_where}
+use Rattle.pg_tables.specs.Shapes.{before, after, only_where, frame, becomes}
 
 -- g'(q,k) at an assignment, where q is the assigned scalar
 abbrev pub assign_scalar : Bool → ℕ → ℕ → List (List StepLiteral)

@@ -1,19 +1,15 @@
 -- The rows of a store of thread s to x, whose value K(v) says. A row has the atom after the step, and whether its thread is s,
 -- whether its locations are x, and whether its values are the same.
-use Rattle.std.specs.Prelude.{ℕ, Bool, true, false, ◌==◌, List, [], ◌∷◌, slice_index}
+use Rattle.std.specs.Prelude.{ℕ, Bool, true, false, ◌==◌, List, [], ◌∷◌}
 use Rattle.pg_assertion.specs.declared.atom.ViewAtom.{ViewAtom}
 use Rattle.pg_assertion.specs.declared.atom.ViewAtom.TheVariants.{Last, Read, Then, Newest, Ordered, Fenced}
 use Rattle.pg_assertion.specs.declared.step_atom.StepAtom.{StepAtom}
 use Rattle.pg_assertion.specs.declared.step_atom.StepAtom.TheVariants.{Value}
-use Rattle.pg_program.specs.NameTable.{NameTable, lines}
+use Rattle.pg_program.specs.NameTable.{NameTable}
 use Rattle.pg_tables.specs.declared.clause.StepLiteral.{StepLiteral}
 use Rattle.pg_tables.specs.Clause.{implies}
-use Rattle.pg_tables.specs.Shapes.{frame, becomes, becomes_both, gains, gains_both}
-use Rattle.pg_rules_access.specs.Atoms.{before, after, always, never}
-
--- the locations stand on the same cache line
-abbrev pub same_line : NameTable → ℕ → ℕ → Bool
-same_line names x z = slice_index (lines names) z == slice_index (lines names) x
+use Rattle.pg_tables.specs.Steps.{same_line}
+use Rattle.pg_tables.specs.Shapes.{before, after, always, never, frame, becomes, becomes_both, gains, gains_both}
 
 -- L'(z,v), where z is x
 abbrev pub store_last : Bool → ℕ → ℕ → List (List StepLiteral)

@@ -21,7 +21,7 @@ use Rattle.pg_tables.specs.declared.clause.Case.TheVariants.{Succeeds}
 use Rattle.pg_tables.specs.declared.clause.StepLiteral.{StepLiteral}
 use Rattle.pg_tables.specs.Clause.{implies, yes, no}
 use Rattle.pg_tables.specs.Table.{per_value, under, exactly_one}
-use Rattle.pg_rules_access.specs.Atoms.{before, after, always, never}
+use Rattle.pg_tables.specs.Shapes.{before, after, always, never}
 
 -- For each tuple of values of these scalars, the first slowest: where they have them, what is said of these values holds. In
 -- front stand the atoms that were given for the scalars before them, whose values are in the list.

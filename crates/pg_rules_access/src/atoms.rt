@@ -1,56 +1,20 @@
 //! Tables over the atoms after a step: the rows of a statement are a table at an index that is an atom.
 
-ghost use Rattle.std.specs.Prelude.{◌≡◌, ℕ, ◌∷◌, [], not, map};
+ghost use Rattle.std.specs.Prelude.{◌≡◌, ℕ, not, map};
 ghost use Rattle.pg_assertion.specs.declared.atom.ViewAtom.{ViewAtom};
 ghost use Rattle.pg_assertion.specs.declared.atom.ViewAtom.TheVariants.{Scalar, Last, Read, Then as SeenThen, Newest, Ordered, Fenced};
 ghost use Rattle.pg_assertion.specs.Layout.{IsAtom};
 ghost use Rattle.pg_tables.specs.Shapes.{frame};
 ghost use Rattle.pg_tables.specs.Table.{when, per_value, IsOneOf};
 ghost use Rattle.pg_program.specs.Words.{is_in};
-ghost use Rattle.pg_rules_access.specs.Atoms.{before, after, only_where, always, never, scalar_rows, access_rows};
+ghost use Rattle.pg_rules_access.specs.Atoms.{scalar_rows, access_rows};
 
-use pg_assertion::{Side, StepAtom, ViewAtom};
+use pg_assertion::ViewAtom;
 use pg_program::AuxAssign;
 use pg_region::ClauseSink;
 use pg_tables::{
-    Clause, PerLocation, PerScalar, PerThread, PerValue, Rows, Setting, Then, When, frame, implies,
-    on,
+    PerLocation, PerScalar, PerThread, PerValue, Rows, Setting, Then, When, frame,
 };
-
-/// An atom before the step.
-pub fn before(atom: ViewAtom) -> StepAtom
-    ensures { result ≡ before atom }
-{
-    on(atom, Side::Before)
-}
-
-/// An atom after the step.
-pub fn after(atom: ViewAtom) -> StepAtom
-    ensures { result ≡ after atom }
-{
-    on(atom, Side::After)
-}
-
-/// `a => b`.
-pub fn only_where(a: StepAtom, b: StepAtom) -> [Clause; 1]
-    ensures { result ≡ only_where a b }
-{
-    [implies(&[a], &[b])]
-}
-
-/// `=> a`.
-pub fn always(a: StepAtom) -> [Clause; 1]
-    ensures { result ≡ always a }
-{
-    [implies(&[], &[a])]
-}
-
-/// `a =>`.
-pub fn never(a: StepAtom) -> [Clause; 1]
-    ensures { result ≡ never a }
-{
-    [implies(&[a], &[])]
-}
 
 /// Each atom is what it was.
 #[derive(Clone, Copy)]

@@ -4,17 +4,17 @@ ghost use Rattle.std.specs.Prelude.{◌≡◌, ◌<◌, ◌∷◌, ◌++◌, [],
 ghost use Rattle.pg_assertion.specs.declared.atom.ViewAtom.{ViewAtom};
 ghost use Rattle.pg_assertion.specs.declared.atom.ViewAtom.TheVariants.{Last, Read, Then as SeenThen, Fenced};
 ghost use Rattle.pg_assertion.specs.Layout.{IsAtom, IsThreadNumber};
-ghost use Rattle.pg_rules_access.specs.Atoms.{before, after};
+ghost use Rattle.pg_tables.specs.Shapes.{before, after};
 ghost use Rattle.pg_rules_access.specs.Cas.{if_stored, cas_scalar, own_read, own_then, own_fenced, cas};
 
-use crate::atoms::{after, always, before, only_where};
 use crate::load::{Load, ReadThen};
 use crate::store::Store;
 use pg_assertion::{StepAtom, ViewAtom};
 use pg_program::Names;
 use pg_region::ClauseSink;
 use pg_tables::{
-    Case, PerValue, Rows, Setting, Then, Under, becomes, becomes_both, frame, implies,
+    Case, PerValue, Rows, Setting, Then, Under, after, always, becomes, becomes_both, before, frame,
+    implies, only_where,
 };
 
 /// A cas of a thread on a location, which reads into a scalar.

@@ -5,10 +5,9 @@ ghost use Rattle.pg_assertion.specs.declared.atom.ViewAtom.{ViewAtom};
 ghost use Rattle.pg_assertion.specs.Layout.{IsAtom};
 ghost use Rattle.pg_rules_access.specs.Fence.{mfence, sfence};
 
-use crate::atoms::{after, before, only_where};
 use pg_assertion::ViewAtom;
 use pg_region::ClauseSink;
-use pg_tables::{Rows, Setting, becomes, frame};
+use pg_tables::{Rows, Setting, after, becomes, before, frame, only_where};
 
 /// An `mfence` of a thread.
 #[derive(Clone, Copy)]

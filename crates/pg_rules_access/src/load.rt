@@ -5,13 +5,14 @@ ghost use Rattle.pg_assertion.specs.declared.atom.ViewAtom.{ViewAtom};
 ghost use Rattle.pg_assertion.specs.declared.atom.ViewAtom.TheVariants.{Scalar, Read, Then as SeenThen};
 ghost use Rattle.pg_assertion.specs.Layout.{IsAtom, IsThreadNumber};
 ghost use Rattle.pg_tables.specs.Clause.{implies};
-ghost use Rattle.pg_rules_access.specs.Atoms.{before, after};
+ghost use Rattle.pg_tables.specs.Shapes.{before, after};
 ghost use Rattle.pg_rules_access.specs.Load.{assign, load, read_then, load_loses, load_gains};
 
-use crate::atoms::{after, before, only_where};
 use pg_assertion::{StepAtom, ViewAtom};
 use pg_region::ClauseSink;
-use pg_tables::{Clause, PerValue, Rows, Setting, Then, becomes, frame, implies};
+use pg_tables::{
+    Clause, PerValue, Rows, Setting, Then, after, becomes, before, frame, implies, only_where,
+};
 
 /// An assignment to a scalar.
 #[derive(Clone, Copy)]

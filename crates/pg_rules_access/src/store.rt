@@ -7,22 +7,15 @@ ghost use Rattle.pg_assertion.specs.declared.step_atom.StepAtom.{StepAtom};
 ghost use Rattle.pg_assertion.specs.Layout.{IsAtom};
 ghost use Rattle.pg_region.specs.Sink.{Emitted};
 ghost use Rattle.pg_tables.specs.Clause.{written};
-ghost use Rattle.pg_rules_access.specs.Store.{same_line, store_then, store, store_twice, twice};
+ghost use Rattle.pg_rules_access.specs.Store.{store_then, store, store_twice, twice};
 
-use crate::atoms::{after, always, before, never};
 use pg_assertion::{StepAtom, ViewAtom};
 use pg_program::Names;
 use pg_region::ClauseSink;
-use pg_tables::{Clause, Rows, Setting, becomes, becomes_both, frame, gains, gains_both, implies};
-
-/// Whether a location stands on the line of `x`.
-fn same_line(names: &Names, x: u8, z: u8) -> bool
-    requires x { x < length names.now.locations }
-    requires z { z < length names.now.locations }
-    ensures { result ≡ same_line names.now x z }
-{
-    names.line(z) == names.line(x)
-}
+use pg_tables::{
+    Clause, Rows, Setting, after, always, becomes, becomes_both, before, frame, gains, gains_both,
+    implies, never, same_line,
+};
 
 /// A store of a thread to a location.
 #[derive(Clone, Copy)]

@@ -10,15 +10,16 @@ ghost use Rattle.pg_program.specs.NameTable.{is_auxiliary};
 ghost use Rattle.pg_program.specs.Words.{is_in, bracket_scalars};
 ghost use Rattle.pg_region.specs.Sink.{Emitted};
 ghost use Rattle.pg_tables.specs.Clause.{implies, yes, written};
-ghost use Rattle.pg_rules_access.specs.Atoms.{before, after};
+ghost use Rattle.pg_tables.specs.Shapes.{before, after};
 ghost use Rattle.pg_rules_access.specs.Values.{AreScalars, AreFew, all_before, says_test, taken, bracket_side, bracket_rules, AreAssigns};
 
-use crate::atoms::{after, always, before, never};
 use crate::tuples::{Says, Tuples};
 use pg_assertion::{Layout, Side, StepAtom, ViewAtom};
 use pg_program::{AuxAssign, Branch, Cond, Expr, NameKind, Names, eval, holds_cond};
 use pg_region::ClauseSink;
-use pg_tables::{HasValues, Rows, Setting, StepLiteral, implies};
+use pg_tables::{
+    HasValues, Rows, Setting, StepLiteral, after, always, before, implies, never,
+};
 
 /// Whether an expression reads a scalar.
 fn reads(expr: &Expr, r: u8) -> bool

@@ -10,7 +10,7 @@ use Rattle.pg_tables.specs.declared.clause.StepLiteral.{StepLiteral}
 use Rattle.pg_tables.specs.declared.clause.Case.TheVariants.{Succeeds, Fails}
 use Rattle.pg_tables.specs.Clause.{yes, no, implies}
 use Rattle.pg_tables.specs.Table.{when, under, per_thread, per_location, per_value, per_scalar, IsOneOf}
-use Rattle.pg_tables.specs.Shapes.{becomes, becomes_both, gains, gains_both}
+use Rattle.pg_tables.specs.Shapes.{only_where, always, never, becomes, becomes_both, gains, gains_both}
 use Rattle.pg_tables.specs.Truth.{clause_true, literal_true, AllTrue, RowShapesAreTrue}
 
 pub by_truth : (b : Bool) {C : Type 0} → (b ≡ true → C) → (b ≡ false → C) → C
@@ -112,6 +112,10 @@ same false false h = refl
 same true false h = absurd (true≢false h)
 same false true h = absurd (false≢true h)
 
+where_holds : (a b : Bool) → (a ≡ true → b ≡ true) → ((not a || (b || false)) && true) ≡ true
+where_holds true b h = ap (λ c. (c || false) && true) (h refl)
+where_holds false b h = refl
+
 both : (a b c : Bool) → a ≡ (b && c)
     → ((not a || (b || false)) && ((not a || (c || false)) && ((not b || (not c || (a || false))) && true))) ≡ true
 both a true true h = rw h
@@ -135,6 +139,15 @@ gained_both a false true false h = rw h
 gained_both a false false c h = rw h
 
 module _ (val : StepAtom → Bool) where
+  pub all-only_where : (a b : StepAtom) → (val a ≡ true → val b ≡ true) → AllTrue val (only_where a b)
+  all-only_where a b h = record { all = where_holds (val a) (val b) h }
+
+  pub all-always : (a : StepAtom) → val a ≡ true → AllTrue val (always a)
+  all-always a h = record { all = ap (λ b. (b || false) && true) h }
+
+  pub all-never : (a : StepAtom) → val a ≡ false → AllTrue val (never a)
+  all-never a h = record { all = ap (λ b. (not b || false) && true) h }
+
   pub all-becomes : (a b : StepAtom) → val a ≡ val b → AllTrue val (becomes a b)
   all-becomes a b h = record { all = same (val a) (val b) h }
 

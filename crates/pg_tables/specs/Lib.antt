@@ -3,3 +3,4 @@ pub mod Table
 pub mod Shapes
 pub mod Truth
 pub mod Bound
+pub mod Steps

@@ -7,6 +7,23 @@ use Rattle.pg_assertion.specs.declared.step_atom.StepAtom.TheVariants.{On}
 use Rattle.pg_tables.specs.declared.clause.StepLiteral.{StepLiteral}
 use Rattle.pg_tables.specs.Clause.{implies}
 
+-- an atom before the step, and after it
+abbrev pub before : ViewAtom → StepAtom
+before a = On a Before
+
+abbrev pub after : ViewAtom → StepAtom
+after a = On a After
+
+-- `a => b`; `=> a`; `a =>`
+abbrev pub only_where : StepAtom → StepAtom → List (List StepLiteral)
+only_where a b = implies (a ∷ []) (b ∷ []) ∷ []
+
+abbrev pub always : StepAtom → List (List StepLiteral)
+always a = implies [] (a ∷ []) ∷ []
+
+abbrev pub never : StepAtom → List (List StepLiteral)
+never a = implies (a ∷ []) [] ∷ []
+
 -- a is what b is
 abbrev pub becomes : StepAtom → StepAtom → List (List StepLiteral)
 becomes a b =
@@ -16,7 +33,7 @@ becomes a b =
 
 -- an atom is after the step what it was before
 abbrev pub frame : ViewAtom → List (List StepLiteral)
-frame a = becomes (On a After) (On a Before)
+frame a = becomes (after a) (before a)
 
 -- a is b and c
 abbrev pub becomes_both : StepAtom → StepAtom → StepAtom → List (List StepLiteral)

@@ -11,11 +11,16 @@
 mod clause;
 mod one_value;
 mod shapes;
+mod steps;
 mod table;
 
 pub use clause::{Case, Clause, Setting, StepLiteral, implies};
 pub use one_value::{ExactlyOne, HasValues};
-pub use shapes::{becomes, becomes_both, frame, gains, gains_both, on, row_shapes_are_true};
+pub use shapes::{
+    after, always, becomes, becomes_both, before, frame, gains, gains_both, never, on, only_where,
+    row_shapes_are_true,
+};
+pub use steps::same_line;
 pub use table::{
     PerLocation, PerScalar, PerThread, PerValue, Rows, Then, Under, When, WhereDifferent,
     WhereLess, each, offer,

@@ -2,7 +2,7 @@
 
 ghost use Rattle.std.specs.Prelude.{◌≡◌};
 ghost use Rattle.pg_assertion.specs.declared.step_atom.StepAtom.{StepAtom};
-ghost use Rattle.pg_tables.specs.Shapes.{frame, becomes, becomes_both, gains, gains_both};
+ghost use Rattle.pg_tables.specs.Shapes.{before, after, only_where, always, never, frame, becomes, becomes_both, gains, gains_both};
 ghost use Rattle.pg_tables.specs.Truth.{RowShapesAreTrue};
 
 use crate::clause::{Clause, implies};
@@ -15,11 +15,46 @@ pub fn on(atom: ViewAtom, side: Side) -> StepAtom
     StepAtom::On { atom, side }
 }
 
+/// An atom before the step.
+pub fn before(atom: ViewAtom) -> StepAtom
+    ensures { result ≡ before atom }
+{
+    on(atom, Side::Before)
+}
+
+/// An atom after the step.
+pub fn after(atom: ViewAtom) -> StepAtom
+    ensures { result ≡ after atom }
+{
+    on(atom, Side::After)
+}
+
+/// `a => b`.
+pub fn only_where(a: StepAtom, b: StepAtom) -> [Clause; 1]
+    ensures { result ≡ only_where a b }
+{
+    [implies(&[a], &[b])]
+}
+
+/// `=> a`.
+pub fn always(a: StepAtom) -> [Clause; 1]
+    ensures { result ≡ always a }
+{
+    [implies(&[], &[a])]
+}
+
+/// `a =>`.
+pub fn never(a: StepAtom) -> [Clause; 1]
+    ensures { result ≡ never a }
+{
+    [implies(&[a], &[])]
+}
+
 /// The atom is after the step what it was before.
 pub fn frame(atom: ViewAtom) -> [Clause; 2]
     ensures { result ≡ frame atom }
 {
-    becomes(on(atom, Side::After), on(atom, Side::Before))
+    becomes(after(atom), before(atom))
 }
 
 /// `a` is what `b` is.
