@@ -1,13 +1,25 @@
 -- Literals, and the words that they are packed into.
 --
 -- The law at the end is no definition: the model of `Lit` cites it, and what a model cites stands in specs/.
-use Rattle.std.specs.Prelude.{◌≡◌, ℕ, ◌+◌, ◌*◌, ◌/◌, ◌%◌, Bool, true, false, ◌==◌, refl}
+use Rattle.std.specs.Prelude.{◌≡◌, ℕ, ◌+◌, ◌*◌, ◌/◌, ◌%◌, Bool, true, false, not, ◌&&◌, ◌==◌, refl}
 use Rattle.std.proofs.Common.{zero, suc, ◌<◌, ◌∙◌, ap, arith}
 
 -- an atom by its number, which is meant to be true or false
 pub record Literal : Type 0 where
   pub atom : ℕ
   pub positive : Bool
+
+-- the literal of the same atom that is meant the other way round
+abbrev pub negated : Literal → Literal
+negated l = record { atom = l.atom; positive = not l.positive }
+
+-- two literals are the same one: they have one atom and one sign
+abbrev pub same_sign : Bool → Bool → Bool
+same_sign true b = b
+same_sign false b = not b
+
+abbrev pub same : Literal → Literal → Bool
+same l m = (l.atom == m.atom) && same_sign l.positive m.positive
 
 abbrev pub sign_bit : Bool → ℕ
 sign_bit true = 1

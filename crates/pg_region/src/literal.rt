@@ -1,7 +1,7 @@
 //! Literals: an atom's number and a sign.
 
 ghost use Rattle.std.specs.Prelude.{◌≡◌, ◌<◌, ◌≤◌, ◌^◌};
-ghost use Rattle.pg_region.specs.Literal.{literal_of, word_of};
+ghost use Rattle.pg_region.specs.Literal.{literal_of, word_of, negated, same};
 
 use std::marker::Model;
 
@@ -51,9 +51,38 @@ impl Lit {
     {
         unpacked(self.word).1
     }
+
+    /// The literal of the same atom that is meant the other way round.
+    pub fn negated(self) -> Lit
+        ensures { result ≡ negated self }
+    {
+        if self.word % 2 == 1 {
+            Lit {
+                word: self.word - 1,
+            }
+        } else {
+            Lit {
+                word: self.word + 1,
+            }
+        }
+    }
+
+    /// Whether this is the other literal: their atoms and their signs are the same.
+    pub fn is(self, other: Lit) -> bool
+        ensures { result ≡ same self other }
+    {
+        self.word == other.word
+    }
+
+    /// The word that it takes: twice the number of the atom, and one more where it is meant to be true.
+    pub fn word(self) -> u32
+        ensures { result ≡ word_of self }
+    {
+        self.word
+    }
 }
 
-/// The word of a literal. This function and the next one alone know how a literal is packed.
+/// The word of a literal.
 fn packed(atom: u32, positive: bool) -> u32
     requires { atom < 2 ^ 31 }
     ensures word { result ≡ word_of (record { atom = atom; positive = positive }) }

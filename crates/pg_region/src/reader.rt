@@ -1,6 +1,6 @@
 //! The clauses of one obligation, lent one by one.
 
-ghost use Rattle.std.specs.Prelude.{◌≡◌, ◌-◌, ◌≤◌, length};
+ghost use Rattle.std.specs.Prelude.{◌≡◌, ◌-◌, ◌<◌, ◌≤◌, ◌^◌, length, All};
 ghost use Rattle.pg_region.specs.Region.{clause_at, counted};
 ghost use Rattle.pg_region.specs.Range.{listed, Fits};
 
@@ -19,15 +19,14 @@ pub struct ClauseReader<'a> {
 }
 
 impl<'a> Model for ClauseReader<'a> {
-    ghost use Rattle.std.specs.Prelude.{length};
-    ghost use Rattle.pg_region.specs.Range.{listed, IsRange, IsWithin};
+    ghost use Rattle.pg_region.specs.Range.{listed, Fits};
     ghost use Rattle.pg_region.specs.Reading.{Reading};
 
     ghost Value = { Reading };
 
     ghost view = { λ r. record { clauses = listed r.region.now.clauses r.loaded.range; atoms = r.loaded.atoms; looks = r.looks } };
 
-    ghost invariant = { λ r. IsRange r.loaded.range × IsWithin r.loaded.range (length r.region.now.clauses) };
+    ghost invariant = { λ r. Fits r.loaded r.region.now.clauses };
 }
 
 impl<'a> ClauseReader<'a> {
@@ -50,9 +49,11 @@ impl<'a> ClauseReader<'a> {
         self.loaded.range.count()
     }
 
-    /// The greatest number of an atom.
+    /// The greatest number of an atom. No literal of the clauses has an atom above it.
     pub fn atoms(&self) -> u32
-        ensures { result ≡ self.now.atoms }
+        ensures atoms { result ≡ self.now.atoms }
+        ensures few { self.now.atoms < 2 ^ 31 }
+        ensures over { All (All (λ x. x.atom ≤ self.now.atoms)) self.now.clauses }
     {
         self.loaded.atoms
     }
