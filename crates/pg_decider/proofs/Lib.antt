@@ -1,0 +1,17 @@
+pub mod Weighing
+pub mod Chained
+pub mod Started
+pub mod Literals
+pub mod Trails
+pub mod Watching
+pub mod Placing
+pub mod Visits
+pub mod Drained
+pub mod Counting
+pub mod Propagated
+pub mod Attached
+pub mod Searched
+pub mod Splits
+pub mod Trees
+pub mod Existing
+pub mod Sound

@@ -1,0 +1,17 @@
+pub mod Weigh
+pub mod Assignment
+pub mod Split
+pub mod Tree
+pub mod Outcome
+pub mod Held
+pub mod Laws
+pub mod Chains
+pub mod Starts
+pub mod Trail
+pub mod Reached
+pub mod Counted
+pub mod Watch
+pub mod Noted
+pub mod Search
+pub mod Progress
+pub mod Work
