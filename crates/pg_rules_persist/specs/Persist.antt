@@ -1,6 +1,6 @@
 -- The persistency rules of a step: how what a crash may leave, and what it may leave once a thread has fenced, come of what was
 -- before the step. They are given as clauses, in their order.
-use Rattle.std.specs.Prelude.{ℕ, List, [], ◌++◌, Option, Some, None, length}
+use Rattle.std.specs.Prelude.{ℕ, ◌<◌, List, [], ◌++◌, Option, Some, None, length}
 use Rattle.pg_assertion.specs.declared.atom.ViewAtom.{ViewAtom}
 use Rattle.pg_assertion.specs.declared.atom.ViewAtom.TheVariants.{Persist, Async}
 use Rattle.pg_assertion.specs.Layout.{Sizes, sizes}
@@ -39,3 +39,11 @@ rules_of l names s None = []
 -- the persistency rules of a step of a program
 abbrev pub persist : ProgramTable → Step → List (List StepLiteral)
 persist p step = rules_of (sizes p.names (length p.threads)) p.names step.thread (stmt_at p step.thread step.point)
+
+-- the location of an act is one of the layout
+abbrev pub IsActOver : Sizes → Act-F Act Stmt → Type 0
+IsActOver l (Store x e) = x < l.locations
+IsActOver l (Cas r x e d) = x < l.locations
+IsActOver l (Flush x) = x < l.locations
+IsActOver l (Flushopt x) = x < l.locations
+IsActOver l act = Unit {0}

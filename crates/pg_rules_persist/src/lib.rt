@@ -4,3 +4,9 @@
 //! a program, in their order: for each location and value whether a crash may leave it there, and whether it may once a thread has
 //! fenced. Flushes act on cache lines, and fences commit each line. No call takes memory.
 #![tactic(auto)]
+
+mod atoms;
+mod emitter;
+mod rows;
+
+pub use emitter::persist_rules;

@@ -1,0 +1,4 @@
+mod PersistShown
+mod PersistBounds
+mod PersistRows
+mod PersistTrue
