@@ -1,5 +1,5 @@
 -- The rules of a step, by its statement, and the location that its act is on.
-use Rattle.std.proofs.Common.{◌≡◌, ℕ, ◌<◌, ◌≤◌, Bool, List, [], length, None, Some, Option, Result, sym, subst, ap}
+use Rattle.std.proofs.Common.{◌≡◌, ℕ, ◌<◌, ◌≤◌, Bool, List, [], length, None, Some, Option, Result, sym, subst}
 use Rattle.std.specs.List.{All}
 use Rattle.std.proofs.lemmas.List.Elements.{All-head}
 use Rattle.pg_assertion.specs.Layout.{Sizes, sizes}

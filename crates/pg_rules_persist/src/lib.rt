@@ -7,6 +7,8 @@
 
 mod atoms;
 mod emitter;
+mod laws;
 mod rows;
 
 pub use emitter::persist_rules;
+pub use laws::persist_rules_are_counted;
