@@ -84,7 +84,7 @@ abbrev pub IsStmtOver : Sizes → Stmt → Type 0
 IsStmtOver l s = IsActOver l (out-Act (out-Stmt s).act) × AreAssigns l (out-Stmt s).aux
 
 -- the layout is that of these names, and has the thread and what the bracket speaks of
-pub record IsOf (l : Sizes) (names : NameTable) (s : ℕ) (aux : List AuxAssign) : Type 0 where
+pub record IsContext (l : Sizes) (names : NameTable) (s : ℕ) (aux : List AuxAssign) : Type 0 where
   pub scalars : l.scalars ≡ length names.scalars
   pub locations : l.locations ≡ length names.locations
   pub thread : IsThreadNumber l s

@@ -12,9 +12,7 @@ ghost use Rattle.pg_rules_access.specs.Atoms.{scalar_rows, access_rows};
 use pg_assertion::ViewAtom;
 use pg_program::AuxAssign;
 use pg_region::ClauseSink;
-use pg_tables::{
-    PerLocation, PerScalar, PerThread, PerValue, Rows, Setting, Then, When, frame,
-};
+use pg_tables::{PerLocation, PerScalar, PerThread, PerValue, Rows, Setting, Then, When, frame};
 
 /// Each atom is what it was.
 #[derive(Clone, Copy)]
@@ -36,7 +34,7 @@ impl Rows<ViewAtom> for Frames {
 }
 
 /// The rows of the scalars, without those that a bracket assigns.
-#[derive(Clone, Copy)]
+#[derive(Drop)]
 pub struct ScalarRows<'a, F> {
     pub rows: F,
     pub aux: &'a [AuxAssign],
@@ -62,7 +60,7 @@ impl<'a, F: Rows<ViewAtom> + Copy> Rows<()> for ScalarRows<'a, F> {
 }
 
 /// The rows of a scalar, if the bracket does not assign it.
-#[derive(Clone, Copy)]
+#[derive(Drop)]
 struct ScalarRow<'a, F> {
     rows: F,
     aux: &'a [AuxAssign],
@@ -96,7 +94,7 @@ fn is_target(aux: &[AuxAssign], r: u8) -> bool
 }
 
 /// The row of a scalar with a value.
-#[derive(Clone, Copy)]
+#[derive(Drop)]
 struct ScalarCell<F>(F);
 
 impl<F: Rows<ViewAtom>> Rows<(((), u8), u8)> for ScalarCell<F> {
@@ -116,7 +114,7 @@ impl<F: Rows<ViewAtom>> Rows<(((), u8), u8)> for ScalarCell<F> {
 }
 
 /// The rows of the atoms that accesses of memory change.
-#[derive(Clone, Copy)]
+#[derive(Drop)]
 pub struct AccessRows<F>(pub F);
 
 impl<F: Rows<ViewAtom> + Copy> Rows<()> for AccessRows<F> {
@@ -143,7 +141,7 @@ impl<F: Rows<ViewAtom> + Copy> Rows<()> for AccessRows<F> {
 }
 
 /// The rows of an atom `L`.
-#[derive(Clone, Copy)]
+#[derive(Drop)]
 struct LastRow<F>(F);
 
 impl<F: Rows<ViewAtom>> Rows<(((), u8), u8)> for LastRow<F> {
@@ -163,7 +161,7 @@ impl<F: Rows<ViewAtom>> Rows<(((), u8), u8)> for LastRow<F> {
 }
 
 /// The rows of an atom `R`.
-#[derive(Clone, Copy)]
+#[derive(Drop)]
 struct ReadRow<F>(F);
 
 impl<F: Rows<ViewAtom>> Rows<((((), u8), u8), u8)> for ReadRow<F> {
@@ -183,7 +181,7 @@ impl<F: Rows<ViewAtom>> Rows<((((), u8), u8), u8)> for ReadRow<F> {
 }
 
 /// The rows of an atom `C`.
-#[derive(Clone, Copy)]
+#[derive(Drop)]
 struct ThenRow<F>(F);
 
 impl<F: Rows<ViewAtom>> Rows<((((((), u8), u8), u8), u8), u8)> for ThenRow<F> {
@@ -204,7 +202,7 @@ impl<F: Rows<ViewAtom>> Rows<((((((), u8), u8), u8), u8), u8)> for ThenRow<F> {
 }
 
 /// The rows of an atom `N`.
-#[derive(Clone, Copy)]
+#[derive(Drop)]
 struct NewestRow<F>(F);
 
 impl<F: Rows<ViewAtom>> Rows<(((), u8), u8)> for NewestRow<F> {
@@ -224,7 +222,7 @@ impl<F: Rows<ViewAtom>> Rows<(((), u8), u8)> for NewestRow<F> {
 }
 
 /// The rows of an atom `O`.
-#[derive(Clone, Copy)]
+#[derive(Drop)]
 struct OrderedRow<F>(F);
 
 impl<F: Rows<ViewAtom>> Rows<(((), u8), u8)> for OrderedRow<F> {
@@ -244,7 +242,7 @@ impl<F: Rows<ViewAtom>> Rows<(((), u8), u8)> for OrderedRow<F> {
 }
 
 /// The rows of an atom `F`.
-#[derive(Clone, Copy)]
+#[derive(Drop)]
 struct FencedRow<F>(F);
 
 impl<F: Rows<ViewAtom>> Rows<(((), u8), u8)> for FencedRow<F> {

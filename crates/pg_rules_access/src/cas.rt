@@ -5,7 +5,7 @@ ghost use Rattle.pg_assertion.specs.declared.atom.ViewAtom.{ViewAtom};
 ghost use Rattle.pg_assertion.specs.declared.atom.ViewAtom.TheVariants.{Last, Read, Then as SeenThen, Fenced};
 ghost use Rattle.pg_assertion.specs.Layout.{IsAtom, IsThreadNumber};
 ghost use Rattle.pg_tables.specs.Shapes.{before, after};
-ghost use Rattle.pg_rules_access.specs.Cas.{if_stored, cas_scalar, own_read, own_then, own_fenced, cas};
+ghost use Rattle.pg_rules_access.specs.Cas.{if_stored, cas_scalar, own_read, cas_read, own_then, cas_then, cas_view, own_fenced, cas_fenced, cas};
 
 use crate::load::{Load, ReadThen};
 use crate::store::Store;
@@ -13,8 +13,8 @@ use pg_assertion::{StepAtom, ViewAtom};
 use pg_program::Names;
 use pg_region::ClauseSink;
 use pg_tables::{
-    Case, PerValue, Rows, Setting, Then, Under, after, always, becomes, becomes_both, before, frame,
-    implies, only_where,
+    Case, PerValue, Rows, Setting, Then, Under, after, always, becomes, becomes_both, before,
+    frame, implies, only_where,
 };
 
 /// A cas of a thread on a location, which reads into a scalar.
@@ -66,55 +66,24 @@ impl<'a> Rows<ViewAtom> for Cas<'a> {
         into: &mut S,
     ) -> Result<(), S::Fault> {
         match i {
-            ViewAtom::Scalar { r, k } => CasScalar { load: self.load() }.offer_at(
-                (r, k),
-                setting,
-                into,
-            ),
+            ViewAtom::Scalar { r, k } => {
+                CasScalar { load: self.load() }.offer_at((r, k), setting, into)
+            }
             ViewAtom::Last { x, .. } => {
                 self.if_stored(x == self.location)
                     .offer_at(i, setting, into)
             }
             ViewAtom::Read { t, x, v } => {
-                if t == self.thread {
-                    CasRead { load: self.load() }.offer_at((x, v), setting, into)
-                } else {
-                    self.if_stored(x == self.location)
-                        .offer_at(i, setting, into)
-                }
+                CasRead { cas: *self }.offer_at(((t, x), v), setting, into)
             }
             ViewAtom::Then { t, x, v, y, w } => {
-                if t == self.thread {
-                    CasThen.offer_at(((((self.thread, x), v), y), w), setting, into)
-                } else {
-                    self.if_stored(x == self.location || y == self.location)
-                        .offer_at(i, setting, into)
-                }
+                CasThen { cas: *self }.offer_at(((((t, x), v), y), w), setting, into)
             }
             ViewAtom::Newest { t, x } | ViewAtom::Ordered { t, x } => {
-                if t == self.thread {
-                    let fenced = after(ViewAtom::Fenced { t, x });
-                    Then(
-                        Under(Case::Succeeds, always(after(i))),
-                        Under(Case::Fails, becomes(after(i), fenced)),
-                    )
-                    .offer_at((), setting, into)
-                } else {
-                    self.if_stored(x == self.location)
-                        .offer_at(i, setting, into)
-                }
+                CasView { cas: *self, t, x }.offer_at(i, setting, into)
             }
             ViewAtom::Fenced { t, x } => {
-                if t == self.thread {
-                    CasFenced {
-                        thread: self.thread,
-                        location: self.location,
-                    }
-                    .offer_at(x, setting, into)
-                } else {
-                    self.if_stored(x == self.location)
-                        .offer_at(i, setting, into)
-                }
+                CasFenced { cas: *self }.offer_at((t, x), setting, into)
             }
             _ => frame(i).offer_at((), setting, into),
         }
@@ -122,7 +91,7 @@ impl<'a> Rows<ViewAtom> for Cas<'a> {
 }
 
 /// An atom that a store would change: it is what the store makes it where the cas succeeds, and what it was where it fails.
-#[derive(Clone, Copy)]
+#[derive(Drop)]
 struct IfStored<'a> {
     names: &'a Names,
     thread: u8,
@@ -157,7 +126,7 @@ impl<'a> Rows<ViewAtom> for IfStored<'a> {
 }
 
 /// A scalar, and a value of it.
-#[derive(Clone, Copy)]
+#[derive(Drop)]
 struct CasScalar {
     load: Load,
 }
@@ -197,13 +166,44 @@ impl Rows<(u8, u8)> for CasScalar {
     }
 }
 
+/// What a thread may read of a location.
+#[derive(Drop)]
+struct CasRead<'a> {
+    cas: Cas<'a>,
+}
+
+impl<'a> Rows<((u8, u8), u8)> for CasRead<'a> {
+    ghost rows = { λ l c i. cas_read l (i.0.0 == c.cas.thread) (i.0.1 == c.cas.location) c.cas.names.now c.cas.thread c.cas.target c.cas.location i.0.0 i.0.1 i.1 };
+
+    ghost fits = { λ s c i. (s.case ≡ None) × IsAtom s.layout (Read i.0.0 i.0.1 i.1) × (s.layout.locations ≡ length c.cas.names.now.locations) × (c.cas.target < s.layout.scalars) × (c.cas.location < s.layout.locations) };
+
+    fn offer_at<S: ClauseSink>(
+        &self,
+        i: ((u8, u8), u8),
+        setting: &Setting,
+        into: &mut S,
+    ) -> Result<(), S::Fault> {
+        let ((t, x), v) = i;
+        if t == self.cas.thread {
+            OwnRead {
+                load: self.cas.load(),
+            }
+            .offer_at((x, v), setting, into)
+        } else {
+            self.cas
+                .if_stored(x == self.cas.location)
+                .offer_at(ViewAtom::Read { t, x, v }, setting, into)
+        }
+    }
+}
+
 /// What the acting thread may read of a location: the last value where the cas succeeds, and what a load leaves where it fails.
-#[derive(Clone, Copy)]
-struct CasRead {
+#[derive(Drop)]
+struct OwnRead {
     load: Load,
 }
 
-impl Rows<(u8, u8)> for CasRead {
+impl Rows<(u8, u8)> for OwnRead {
     ghost rows = { λ l c i. own_read l c.load.thread c.load.target c.load.location i.0 i.1 };
 
     ghost fits = { λ s c i. (s.case ≡ None) × IsAtom s.layout (Read c.load.thread i.0 i.1) × (c.load.target < s.layout.scalars) × (c.load.location < s.layout.locations) };
@@ -237,12 +237,45 @@ impl Rows<(u8, u8)> for CasRead {
     }
 }
 
-/// What the acting thread may read, and then read: last values where the cas succeeds, and less than before where it fails.
-#[derive(Clone, Copy)]
-struct CasThen;
+/// What a thread may read, and then read.
+#[derive(Drop)]
+struct CasThen<'a> {
+    cas: Cas<'a>,
+}
 
-impl Rows<((((u8, u8), u8), u8), u8)> for CasThen {
-    ghost rows = { λ l c i. own_then (i.0.0.0.1 == i.0.1 && i.0.0.1 == i.1) i.0.0.0.0 i.0.0.0.1 i.0.0.1 i.0.1 i.1 };
+impl<'a> Rows<((((u8, u8), u8), u8), u8)> for CasThen<'a> {
+    ghost rows = { λ l c i. cas_then (i.0.0.0.0 == c.cas.thread) (i.0.0.0.1 == c.cas.location || i.0.1 == c.cas.location) (i.0.0.0.1 == i.0.1 && i.0.0.1 == i.1) c.cas.names.now c.cas.thread c.cas.location i.0.0.0.0 i.0.0.0.1 i.0.0.1 i.0.1 i.1 };
+
+    ghost fits = { λ s c i. (s.case ≡ None) × IsAtom s.layout (SeenThen i.0.0.0.0 i.0.0.0.1 i.0.0.1 i.0.1 i.1) × (s.layout.locations ≡ length c.cas.names.now.locations) × (c.cas.location < s.layout.locations) };
+
+    fn offer_at<S: ClauseSink>(
+        &self,
+        i: ((((u8, u8), u8), u8), u8),
+        setting: &Setting,
+        into: &mut S,
+    ) -> Result<(), S::Fault> {
+        let ((((t, x), v), y), w) = i;
+        if t == self.cas.thread {
+            OwnThen {
+                same: x == y && v == w,
+            }
+            .offer_at(((((self.cas.thread, x), v), y), w), setting, into)
+        } else {
+            self.cas
+                .if_stored(x == self.cas.location || y == self.cas.location)
+                .offer_at(ViewAtom::Then { t, x, v, y, w }, setting, into)
+        }
+    }
+}
+
+/// What the acting thread may read, and then read: last values where the cas succeeds, and less than before where it fails.
+#[derive(Drop)]
+struct OwnThen {
+    same: bool,
+}
+
+impl Rows<((((u8, u8), u8), u8), u8)> for OwnThen {
+    ghost rows = { λ l c i. own_then c.same i.0.0.0.0 i.0.0.0.1 i.0.0.1 i.0.1 i.1 };
 
     ghost fits = { λ s c i. (s.case ≡ None) × IsAtom s.layout (SeenThen i.0.0.0.0 i.0.0.0.1 i.0.0.1 i.0.1 i.1) };
 
@@ -255,15 +288,15 @@ impl Rows<((((u8, u8), u8), u8), u8)> for CasThen {
         let ((((t, x), v), y), w) = i;
         let atom = ViewAtom::Then { t, x, v, y, w };
         let first = after(ViewAtom::Last { x, v });
-        let second = after(ViewAtom::Last { x: y, v: w });
         let fails = Under(Case::Fails, only_where(after(atom), before(atom)));
-        if x == y && v == w {
+        if self.same {
             Then(Under(Case::Succeeds, becomes(after(atom), first)), fails).offer_at(
                 (),
                 setting,
                 into,
             )
         } else {
+            let second = after(ViewAtom::Last { x: y, v: w });
             Then(
                 Under(Case::Succeeds, becomes_both(after(atom), first, second)),
                 fails,
@@ -273,14 +306,83 @@ impl Rows<((((u8, u8), u8), u8), u8)> for CasThen {
     }
 }
 
+/// What of a thread is newest or ordered: all where the cas succeeds, and what is fenced where it fails.
+#[derive(Drop)]
+struct CasView<'a> {
+    cas: Cas<'a>,
+    t: u8,
+    x: u8,
+}
+
+impl<'a> Rows<ViewAtom> for CasView<'a> {
+    ghost rows = { λ l c i. cas_view (c.t == c.cas.thread) (c.x == c.cas.location) c.cas.names.now c.cas.thread c.cas.location c.t c.x i };
+
+    ghost fits = { λ s c i. (s.case ≡ None) × IsAtom s.layout i × IsAtom s.layout (Fenced c.t c.x) × (s.layout.locations ≡ length c.cas.names.now.locations) × (c.cas.location < s.layout.locations) };
+
+    fn offer_at<S: ClauseSink>(
+        &self,
+        i: ViewAtom,
+        setting: &Setting,
+        into: &mut S,
+    ) -> Result<(), S::Fault> {
+        if self.t == self.cas.thread {
+            let fenced = after(ViewAtom::Fenced {
+                t: self.t,
+                x: self.x,
+            });
+            Then(
+                Under(Case::Succeeds, always(after(i))),
+                Under(Case::Fails, becomes(after(i), fenced)),
+            )
+            .offer_at((), setting, into)
+        } else {
+            self.cas
+                .if_stored(self.x == self.cas.location)
+                .offer_at(i, setting, into)
+        }
+    }
+}
+
+/// What a thread's flushes are fenced after.
+#[derive(Drop)]
+struct CasFenced<'a> {
+    cas: Cas<'a>,
+}
+
+impl<'a> Rows<(u8, u8)> for CasFenced<'a> {
+    ghost rows = { λ l c i. cas_fenced (i.0 == c.cas.thread) (i.1 == c.cas.location) c.cas.names.now c.cas.thread c.cas.location i.0 i.1 };
+
+    ghost fits = { λ s c i. (s.case ≡ None) × IsAtom s.layout (Fenced i.0 i.1) × (s.layout.locations ≡ length c.cas.names.now.locations) × (c.cas.location < s.layout.locations) };
+
+    fn offer_at<S: ClauseSink>(
+        &self,
+        i: (u8, u8),
+        setting: &Setting,
+        into: &mut S,
+    ) -> Result<(), S::Fault> {
+        let (t, x) = i;
+        if t == self.cas.thread {
+            OwnFenced {
+                thread: self.cas.thread,
+                location: self.cas.location,
+            }
+            .offer_at(x, setting, into)
+        } else {
+            self.cas
+                .if_stored(x == self.cas.location)
+                .offer_at(ViewAtom::Fenced { t, x }, setting, into)
+        }
+    }
+}
+
 /// What the acting thread's flushes of a location are ordered after.
-#[derive(Clone, Copy)]
-struct CasFenced {
+#[derive(Drop)]
+struct OwnFenced {
     thread: u8,
     location: u8,
 }
 
-impl Rows<u8> for CasFenced {
+impl Rows<u8> for OwnFenced {
     ghost rows = { λ l c i. own_fenced (i == c.location) c.thread c.location i };
 
     ghost fits = { λ s c i. (s.case ≡ None) × IsAtom s.layout (Fenced c.thread i) × (c.location < s.layout.locations) };

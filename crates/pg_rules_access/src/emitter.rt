@@ -11,7 +11,7 @@ ghost use Rattle.pg_tables.specs.Clause.{written};
 ghost use Rattle.pg_tables.specs.Shapes.{frame};
 ghost use Rattle.pg_tables.specs.Steps.{IsStepOf};
 ghost use Rattle.pg_rules_access.specs.Values.{value_rules, expects_last, test_rules, AreScalars, AreFew};
-ghost use Rattle.pg_rules_access.specs.Access.{IsOf, IsActOver, rules, act_values, act_row, access};
+ghost use Rattle.pg_rules_access.specs.Access.{IsContext, IsActOver, rules, act_values, act_row, access};
 ghost use Rattle.pg_rules_access.specs.Cas.{cas};
 ghost use Rattle.pg_rules_access.specs.Fence.{mfence, sfence};
 ghost use Rattle.pg_rules_access.specs.Load.{assign, load};
@@ -27,7 +27,7 @@ use crate::values::{
     Bracket, ExpectedValues, Expects, ExpectsLast, Stored, StoredValues, TakenOn, Tests,
 };
 use pg_assertion::{Layout, ViewAtom};
-use pg_program::{Act, AuxAssign, Branch, Cond, Expr, Names, PointId, Program, Step};
+use pg_program::{Act, AuxAssign, Branch, Cond, Expr, MAX_SCALARS, Names, PointId, Program, Step};
 use pg_region::ClauseSink;
 use pg_tables::{Case, Clause, ExactlyOne, PerValue, Rows, Then, Under, offer};
 
@@ -42,7 +42,7 @@ pub fn access_rules<S: ClauseSink>(
     requires step { IsStepOf p.now step.now }
     ensures { Emitted S.takes result (S.view into.old) (S.view into.new) (written (record { layout = layout.now; case = None }) (access p.now step.now)) }
 {
-    let few = layout.scalars() <= 16;
+    let few = layout.scalars() <= u32::from(MAX_SCALARS);
     prove!(few);
     let at = PointId {
         thread: step.thread,
@@ -50,13 +50,13 @@ pub fn access_rules<S: ClauseSink>(
     };
     match p.stmt(at) {
         Some(stmt) => {
-            let of = Of {
+            let context = StepContext {
                 names: p.names(),
                 thread: step.thread,
                 branch: step.branch,
                 aux: stmt.aux.as_slice(),
             };
-            offer_act(&of, &stmt.act, layout, into)
+            offer_act(&context, &stmt.act, layout, into)
         }
         None => Ok(()),
     }
@@ -64,7 +64,7 @@ pub fn access_rules<S: ClauseSink>(
 
 /// Whose step it is: the names of the program, the acting thread, the branch that the step takes, and the bracket.
 #[derive(Clone, Copy)]
-struct Of<'a> {
+struct StepContext<'a> {
     names: &'a Names,
     thread: u8,
     branch: Branch,
@@ -73,100 +73,100 @@ struct Of<'a> {
 
 /// Gives the rules of a statement to a sink, by its act.
 fn offer_act<S: ClauseSink>(
-    of: &Of<'_>,
+    context: &StepContext<'_>,
     act: &Act,
     layout: &Layout,
     into: &mut S,
 ) -> Result<(), S::Fault>
-    requires of { IsOf layout.now of.now.names.now of.now.thread of.now.aux.now }
+    requires context { IsContext layout.now context.now.names.now context.now.thread context.now.aux.now }
     requires act { IsActOver layout.now (out-Act act.now) }
-    ensures { Emitted S.takes result (S.view into.old) (S.view into.new) (written (record { layout = layout.now; case = None }) (rules layout.now of.now.names.now of.now.aux.now (act_values layout.now of.now.branch (out-Act act.now)) (act_row layout.now of.now.names.now of.now.thread (out-Act act.now)))) }
+    ensures { Emitted S.takes result (S.view into.old) (S.view into.new) (written (record { layout = layout.now; case = None }) (rules layout.now context.now.names.now context.now.aux.now (act_values layout.now context.now.branch (out-Act act.now)) (act_row layout.now context.now.names.now context.now.thread (out-Act act.now)))) }
 {
     match act {
-        Act::Assign { target, expr } => offer_assign(of, *target, expr, layout, into),
-        Act::Store { location, expr } => offer_store(of, *location, expr, layout, into),
-        Act::Load { target, location } => offer_load(of, *target, *location, layout, into),
+        Act::Assign { target, expr } => offer_assign(context, *target, expr, layout, into),
+        Act::Store { location, expr } => offer_store(context, *location, expr, layout, into),
+        Act::Load { target, location } => offer_load(context, *target, *location, layout, into),
         Act::Cas {
             target,
             location,
             expected,
             desired,
-        } => offer_cas(of, *target, *location, expected, desired, layout, into),
-        Act::Mfence => offer_mfence(of, layout, into),
-        Act::Sfence => offer_sfence(of, layout, into),
-        Act::Flush { .. } => offer_frames(of, layout, into),
-        Act::Flushopt { .. } => offer_frames(of, layout, into),
-        Act::If { test, .. } => offer_test(of, test, layout, into),
-        Act::While { test, .. } => offer_test(of, test, layout, into),
+        } => offer_cas(context, *target, *location, expected, desired, layout, into),
+        Act::Mfence => offer_mfence(context, layout, into),
+        Act::Sfence => offer_sfence(context, layout, into),
+        Act::Flush { .. } => offer_frames(context, layout, into),
+        Act::Flushopt { .. } => offer_frames(context, layout, into),
+        Act::If { test, .. } => offer_test(context, test, layout, into),
+        Act::While { test, .. } => offer_test(context, test, layout, into),
     }
 }
 
 /// Gives the rules of an assignment to a sink.
 fn offer_assign<S: ClauseSink>(
-    of: &Of<'_>,
+    context: &StepContext<'_>,
     target: u8,
     expr: &Expr,
     layout: &Layout,
     into: &mut S,
 ) -> Result<(), S::Fault>
-    requires of { IsOf layout.now of.now.names.now of.now.thread of.now.aux.now }
+    requires context { IsContext layout.now context.now.names.now context.now.thread context.now.aux.now }
     requires target { target < layout.now.scalars }
     requires scalars { AreScalars (reads expr.now) }
     requires few { AreFew layout.now (reads expr.now) }
-    ensures { Emitted S.takes result (S.view into.old) (S.view into.new) (written (record { layout = layout.now; case = None }) (rules layout.now of.now.names.now of.now.aux.now (value_rules layout.now expr.now Value) (assign target))) }
+    ensures { Emitted S.takes result (S.view into.old) (S.view into.new) (written (record { layout = layout.now; case = None }) (rules layout.now context.now.names.now context.now.aux.now (value_rules layout.now expr.now Value) (assign target))) }
 {
     let values = Then(Tuples(Stored { expr }), ExactlyOne(StoredValues));
-    offer_rules(values, Assign { target }, of, layout, into)
+    offer_rules(values, Assign { target }, context, layout, into)
 }
 
 /// Gives the rules of a store to a sink.
 fn offer_store<S: ClauseSink>(
-    of: &Of<'_>,
+    context: &StepContext<'_>,
     location: u8,
     expr: &Expr,
     layout: &Layout,
     into: &mut S,
 ) -> Result<(), S::Fault>
-    requires of { IsOf layout.now of.now.names.now of.now.thread of.now.aux.now }
+    requires context { IsContext layout.now context.now.names.now context.now.thread context.now.aux.now }
     requires location { location < layout.now.locations }
     requires scalars { AreScalars (reads expr.now) }
     requires few { AreFew layout.now (reads expr.now) }
-    ensures { Emitted S.takes result (S.view into.old) (S.view into.new) (written (record { layout = layout.now; case = None }) (rules layout.now of.now.names.now of.now.aux.now (value_rules layout.now expr.now Value) (store of.now.names.now of.now.thread location))) }
+    ensures { Emitted S.takes result (S.view into.old) (S.view into.new) (written (record { layout = layout.now; case = None }) (rules layout.now context.now.names.now context.now.aux.now (value_rules layout.now expr.now Value) (store context.now.names.now context.now.thread location))) }
 {
     let values = Then(Tuples(Stored { expr }), ExactlyOne(StoredValues));
     let rows = Store {
-        names: of.names,
-        thread: of.thread,
+        names: context.names,
+        thread: context.thread,
         location,
     };
-    offer_rules(values, rows, of, layout, into)
+    offer_rules(values, rows, context, layout, into)
 }
 
 /// Gives the rules of a load to a sink.
 fn offer_load<S: ClauseSink>(
-    of: &Of<'_>,
+    context: &StepContext<'_>,
     target: u8,
     location: u8,
     layout: &Layout,
     into: &mut S,
 ) -> Result<(), S::Fault>
-    requires of { IsOf layout.now of.now.names.now of.now.thread of.now.aux.now }
+    requires context { IsContext layout.now context.now.names.now context.now.thread context.now.aux.now }
     requires target { target < layout.now.scalars }
     requires location { location < layout.now.locations }
-    ensures { Emitted S.takes result (S.view into.old) (S.view into.new) (written (record { layout = layout.now; case = None }) (rules layout.now of.now.names.now of.now.aux.now ([]) (load layout.now of.now.thread target location))) }
+    ensures { Emitted S.takes result (S.view into.old) (S.view into.new) (written (record { layout = layout.now; case = None }) (rules layout.now context.now.names.now context.now.aux.now ([]) (load layout.now context.now.thread target location))) }
 {
     let none: [Clause; 0] = [];
     let rows = Load {
-        thread: of.thread,
+        thread: context.thread,
         target,
         location,
     };
-    offer_rules(none, rows, of, layout, into)
+    offer_rules(none, rows, context, layout, into)
 }
 
 /// Gives the rules of a cas to a sink.
 fn offer_cas<S: ClauseSink>(
-    of: &Of<'_>,
+    context: &StepContext<'_>,
     target: u8,
     location: u8,
     expected: &Expr,
@@ -174,14 +174,14 @@ fn offer_cas<S: ClauseSink>(
     layout: &Layout,
     into: &mut S,
 ) -> Result<(), S::Fault>
-    requires of { IsOf layout.now of.now.names.now of.now.thread of.now.aux.now }
+    requires context { IsContext layout.now context.now.names.now context.now.thread context.now.aux.now }
     requires target { target < layout.now.scalars }
     requires location { location < layout.now.locations }
     requires expected_scalars { AreScalars (reads expected.now) }
     requires expected_few { AreFew layout.now (reads expected.now) }
     requires desired_scalars { AreScalars (reads desired.now) }
     requires desired_few { AreFew layout.now (reads desired.now) }
-    ensures { Emitted S.takes result (S.view into.old) (S.view into.new) (written (record { layout = layout.now; case = None }) (rules layout.now of.now.names.now of.now.aux.now (value_rules layout.now expected.now Expected ++ (value_rules layout.now desired.now Value ++ expects_last layout.now location)) (cas layout.now of.now.names.now of.now.thread target location))) }
+    ensures { Emitted S.takes result (S.view into.old) (S.view into.new) (written (record { layout = layout.now; case = None }) (rules layout.now context.now.names.now context.now.aux.now (value_rules layout.now expected.now Expected ++ (value_rules layout.now desired.now Value ++ expects_last layout.now location)) (cas layout.now context.now.names.now context.now.thread target location))) }
 {
     let expects = Then(
         Tuples(Expects { expr: expected }),
@@ -190,75 +190,117 @@ fn offer_cas<S: ClauseSink>(
     let stores = Then(Tuples(Stored { expr: desired }), ExactlyOne(StoredValues));
     let last = Under(Case::Succeeds, PerValue(ExpectsLast { location }));
     let rows = Cas {
-        names: of.names,
-        thread: of.thread,
+        names: context.names,
+        thread: context.thread,
         target,
         location,
     };
-    offer_rules(Then(expects, Then(stores, last)), rows, of, layout, into)
+    offer_rules(
+        Then(expects, Then(stores, last)),
+        rows,
+        context,
+        layout,
+        into,
+    )
 }
 
 /// Gives the rules of an `mfence` to a sink.
-fn offer_mfence<S: ClauseSink>(of: &Of<'_>, layout: &Layout, into: &mut S) -> Result<(), S::Fault>
-    requires of { IsOf layout.now of.now.names.now of.now.thread of.now.aux.now }
-    ensures { Emitted S.takes result (S.view into.old) (S.view into.new) (written (record { layout = layout.now; case = None }) (rules layout.now of.now.names.now of.now.aux.now ([]) (mfence of.now.thread))) }
+fn offer_mfence<S: ClauseSink>(
+    context: &StepContext<'_>,
+    layout: &Layout,
+    into: &mut S,
+) -> Result<(), S::Fault>
+    requires context { IsContext layout.now context.now.names.now context.now.thread context.now.aux.now }
+    ensures { Emitted S.takes result (S.view into.old) (S.view into.new) (written (record { layout = layout.now; case = None }) (rules layout.now context.now.names.now context.now.aux.now ([]) (mfence context.now.thread))) }
 {
     let none: [Clause; 0] = [];
-    offer_rules(none, Mfence { thread: of.thread }, of, layout, into)
+    offer_rules(
+        none,
+        Mfence {
+            thread: context.thread,
+        },
+        context,
+        layout,
+        into,
+    )
 }
 
 /// Gives the rules of an `sfence` to a sink.
-fn offer_sfence<S: ClauseSink>(of: &Of<'_>, layout: &Layout, into: &mut S) -> Result<(), S::Fault>
-    requires of { IsOf layout.now of.now.names.now of.now.thread of.now.aux.now }
-    ensures { Emitted S.takes result (S.view into.old) (S.view into.new) (written (record { layout = layout.now; case = None }) (rules layout.now of.now.names.now of.now.aux.now ([]) (sfence of.now.thread))) }
+fn offer_sfence<S: ClauseSink>(
+    context: &StepContext<'_>,
+    layout: &Layout,
+    into: &mut S,
+) -> Result<(), S::Fault>
+    requires context { IsContext layout.now context.now.names.now context.now.thread context.now.aux.now }
+    ensures { Emitted S.takes result (S.view into.old) (S.view into.new) (written (record { layout = layout.now; case = None }) (rules layout.now context.now.names.now context.now.aux.now ([]) (sfence context.now.thread))) }
 {
     let none: [Clause; 0] = [];
-    offer_rules(none, Sfence { thread: of.thread }, of, layout, into)
+    offer_rules(
+        none,
+        Sfence {
+            thread: context.thread,
+        },
+        context,
+        layout,
+        into,
+    )
 }
 
 /// Gives the rules of a flush to a sink: no atom of memory changes.
-fn offer_frames<S: ClauseSink>(of: &Of<'_>, layout: &Layout, into: &mut S) -> Result<(), S::Fault>
-    requires of { IsOf layout.now of.now.names.now of.now.thread of.now.aux.now }
-    ensures { Emitted S.takes result (S.view into.old) (S.view into.new) (written (record { layout = layout.now; case = None }) (rules layout.now of.now.names.now of.now.aux.now ([]) (frame))) }
+fn offer_frames<S: ClauseSink>(
+    context: &StepContext<'_>,
+    layout: &Layout,
+    into: &mut S,
+) -> Result<(), S::Fault>
+    requires context { IsContext layout.now context.now.names.now context.now.thread context.now.aux.now }
+    ensures { Emitted S.takes result (S.view into.old) (S.view into.new) (written (record { layout = layout.now; case = None }) (rules layout.now context.now.names.now context.now.aux.now ([]) (frame))) }
 {
     let none: [Clause; 0] = [];
-    offer_rules(none, Frames, of, layout, into)
+    offer_rules(none, Frames, context, layout, into)
 }
 
 /// Gives the rules of a test to a sink.
 fn offer_test<S: ClauseSink>(
-    of: &Of<'_>,
+    context: &StepContext<'_>,
     test: &Cond,
     layout: &Layout,
     into: &mut S,
 ) -> Result<(), S::Fault>
-    requires of { IsOf layout.now of.now.names.now of.now.thread of.now.aux.now }
+    requires context { IsContext layout.now context.now.names.now context.now.thread context.now.aux.now }
     requires left { AreScalars (reads test.now.left) }
     requires right { AreScalars (reads test.now.right) }
     requires few { AreFew layout.now (reads test.now.left ++ reads test.now.right) }
-    ensures { Emitted S.takes result (S.view into.old) (S.view into.new) (written (record { layout = layout.now; case = None }) (rules layout.now of.now.names.now of.now.aux.now (test_rules layout.now test.now of.now.branch) (frame))) }
+    ensures { Emitted S.takes result (S.view into.old) (S.view into.new) (written (record { layout = layout.now; case = None }) (rules layout.now context.now.names.now context.now.aux.now (test_rules layout.now test.now context.now.branch) (frame))) }
 {
-    let values = Then(Tuples(Tests { test }), TakenOn { branch: of.branch });
-    offer_rules(values, Frames, of, layout, into)
+    let values = Then(
+        Tuples(Tests { test }),
+        TakenOn {
+            branch: context.branch,
+        },
+    );
+    offer_rules(values, Frames, context, layout, into)
 }
 
 /// Gives what the expressions say, the rows of the scalars, the bracket and the rows of the atoms of memory to a sink.
 fn offer_rules<V: Rows<()> + Drop, R: Rows<ViewAtom> + Copy, S: ClauseSink>(
     values: V,
     rows: R,
-    of: &Of<'_>,
+    context: &StepContext<'_>,
     layout: &Layout,
     into: &mut S,
 ) -> Result<(), S::Fault>
     requires values { V.fits (record { layout = layout.now; case = None }) values tt }
     requires rows { (a : ViewAtom) → IsAtom layout.now a → R.fits (record { layout = layout.now; case = None }) rows a }
-    requires of { IsOf layout.now of.now.names.now of.now.thread of.now.aux.now }
-    ensures { Emitted S.takes result (S.view into.old) (S.view into.new) (written (record { layout = layout.now; case = None }) (rules layout.now of.now.names.now of.now.aux.now (V.rows layout.now values tt) (R.rows layout.now rows))) }
+    requires context { IsContext layout.now context.now.names.now context.now.thread context.now.aux.now }
+    ensures { Emitted S.takes result (S.view into.old) (S.view into.new) (written (record { layout = layout.now; case = None }) (rules layout.now context.now.names.now context.now.aux.now (V.rows layout.now values tt) (R.rows layout.now rows))) }
 {
-    let scalars = ScalarRows { rows, aux: of.aux };
+    let scalars = ScalarRows {
+        rows,
+        aux: context.aux,
+    };
     let bracket = Bracket {
-        names: of.names,
-        aux: of.aux,
+        names: context.names,
+        aux: context.aux,
     };
     offer(
         &Then(values, Then(scalars, Then(bracket, AccessRows(rows)))),

@@ -2,11 +2,11 @@
 
 ghost use Rattle.std.specs.Prelude.{◌≡◌, ◌<◌, ◌∷◌, ◌++◌, [], ◌==◌};
 ghost use Rattle.pg_assertion.specs.declared.atom.ViewAtom.{ViewAtom};
-ghost use Rattle.pg_assertion.specs.declared.atom.ViewAtom.TheVariants.{Scalar, Read, Then as SeenThen};
+ghost use Rattle.pg_assertion.specs.declared.atom.ViewAtom.TheVariants.{Scalar, Read, Then as SeenThen, Newest};
 ghost use Rattle.pg_assertion.specs.Layout.{IsAtom, IsThreadNumber};
 ghost use Rattle.pg_tables.specs.Clause.{implies};
 ghost use Rattle.pg_tables.specs.Shapes.{before, after};
-ghost use Rattle.pg_rules_access.specs.Load.{assign, load, read_then, load_loses, load_gains};
+ghost use Rattle.pg_rules_access.specs.Load.{assign, load, load_scalar, load_read, load_then, load_view};
 
 use pg_assertion::{StepAtom, ViewAtom};
 use pg_region::ClauseSink;
@@ -52,6 +52,18 @@ pub struct Load {
     pub location: u8,
 }
 
+impl Load {
+    // The thread could read the last message of the location alone.
+    fn newest(&self) -> StepAtom
+        ensures { result ≡ before (Newest self.now.thread self.now.location) }
+    {
+        before(ViewAtom::Newest {
+            t: self.thread,
+            x: self.location,
+        })
+    }
+}
+
 impl Rows<ViewAtom> for Load {
     ghost rows = { λ l c i. load l c.thread c.target c.location i };
 
@@ -63,62 +75,153 @@ impl Rows<ViewAtom> for Load {
         setting: &Setting,
         into: &mut S,
     ) -> Result<(), S::Fault> {
-        let newest = before(ViewAtom::Newest {
-            t: self.thread,
-            x: self.location,
-        });
         match i {
             ViewAtom::Scalar { r, k } => {
-                if r == self.target {
-                    let read = before(ViewAtom::Read {
-                        t: self.thread,
-                        x: self.location,
-                        v: k,
-                    });
-                    only_where(after(i), read).offer_at((), setting, into)
-                } else {
-                    frame(i).offer_at((), setting, into)
-                }
+                LoadScalar { load: *self }.offer_at((r, k), setting, into)
             }
             ViewAtom::Read { t, x, v } => {
-                if t == self.thread {
-                    let read_then = PerValue(ReadThen {
-                        load: *self,
-                        location: x,
-                        value: v,
-                    });
-                    let kept = [implies(&[newest, before(i)], &[after(i)])];
-                    Then(only_where(after(i), before(i)), Then(read_then, kept)).offer_at(
-                        (),
-                        setting,
-                        into,
-                    )
-                } else {
-                    frame(i).offer_at((), setting, into)
-                }
+                LoadRead { load: *self }.offer_at(((t, x), v), setting, into)
             }
-            ViewAtom::Then { t, .. } => {
-                if t == self.thread {
-                    loses(newest, i).offer_at((), setting, into)
-                } else {
-                    frame(i).offer_at((), setting, into)
-                }
+            ViewAtom::Then { t, .. } => LoadThen {
+                load: *self,
+                own: t == self.thread,
             }
+            .offer_at(i, setting, into),
             ViewAtom::Newest { t, .. } | ViewAtom::Ordered { t, .. } | ViewAtom::Fenced { t, .. } =>
-                {
-                    if t == self.thread {
-                        gains(newest, i).offer_at((), setting, into)
-                    } else {
-                        frame(i).offer_at((), setting, into)
-                    }
+                LoadView {
+                    load: *self,
+                    own: t == self.thread,
                 }
+                .offer_at(i, setting, into),
             _ => frame(i).offer_at((), setting, into),
         }
     }
 }
 
+/// A scalar, and a value of it: the target only has values that the thread could read.
+#[derive(Drop)]
+struct LoadScalar {
+    load: Load,
+}
+
+impl Rows<(u8, u8)> for LoadScalar {
+    ghost rows = { λ l c i. load_scalar (i.0 == c.load.target) c.load.thread c.load.location i.0 i.1 };
+
+    ghost fits = { λ s c i. IsAtom s.layout (Scalar i.0 i.1) × IsThreadNumber s.layout c.load.thread × (c.load.location < s.layout.locations) };
+
+    fn offer_at<S: ClauseSink>(
+        &self,
+        i: (u8, u8),
+        setting: &Setting,
+        into: &mut S,
+    ) -> Result<(), S::Fault> {
+        let (r, k) = i;
+        let atom = ViewAtom::Scalar { r, k };
+        if r == self.load.target {
+            let read = before(ViewAtom::Read {
+                t: self.load.thread,
+                x: self.load.location,
+                v: k,
+            });
+            only_where(after(atom), read).offer_at((), setting, into)
+        } else {
+            frame(atom).offer_at((), setting, into)
+        }
+    }
+}
+
+/// What a thread may read: the acting one loses, and loses nothing where it could read the last message of the location alone.
+#[derive(Drop)]
+struct LoadRead {
+    load: Load,
+}
+
+impl Rows<((u8, u8), u8)> for LoadRead {
+    ghost rows = { λ l c i. load_read l (i.0.0 == c.load.thread) c.load.thread c.load.target c.load.location i.0.0 i.0.1 i.1 };
+
+    ghost fits = { λ s c i. IsAtom s.layout (Read i.0.0 i.0.1 i.1) × IsThreadNumber s.layout c.load.thread × (c.load.target < s.layout.scalars) × (c.load.location < s.layout.locations) };
+
+    fn offer_at<S: ClauseSink>(
+        &self,
+        i: ((u8, u8), u8),
+        setting: &Setting,
+        into: &mut S,
+    ) -> Result<(), S::Fault> {
+        let ((t, x), v) = i;
+        let atom = ViewAtom::Read { t, x, v };
+        if t == self.load.thread {
+            let newest = self.load.newest();
+            let read_then = PerValue(ReadThen {
+                load: self.load,
+                location: x,
+                value: v,
+            });
+            let kept = [implies(&[newest, before(atom)], &[after(atom)])];
+            Then(only_where(after(atom), before(atom)), Then(read_then, kept)).offer_at(
+                (),
+                setting,
+                into,
+            )
+        } else {
+            frame(atom).offer_at((), setting, into)
+        }
+    }
+}
+
+/// What a thread may read, and then read: the acting one loses.
+#[derive(Drop)]
+struct LoadThen {
+    load: Load,
+    own: bool,
+}
+
+impl Rows<ViewAtom> for LoadThen {
+    ghost rows = { λ l c i. load_then c.own c.load.thread c.load.location i };
+
+    ghost fits = { λ s c i. IsAtom s.layout i × IsThreadNumber s.layout c.load.thread × (c.load.location < s.layout.locations) };
+
+    fn offer_at<S: ClauseSink>(
+        &self,
+        i: ViewAtom,
+        setting: &Setting,
+        into: &mut S,
+    ) -> Result<(), S::Fault> {
+        if self.own {
+            loses(self.load.newest(), i).offer_at((), setting, into)
+        } else {
+            frame(i).offer_at((), setting, into)
+        }
+    }
+}
+
+/// What is newest, ordered or fenced: the acting thread's atoms gain.
+#[derive(Drop)]
+struct LoadView {
+    load: Load,
+    own: bool,
+}
+
+impl Rows<ViewAtom> for LoadView {
+    ghost rows = { λ l c i. load_view c.own c.load.thread c.load.location i };
+
+    ghost fits = { λ s c i. IsAtom s.layout i × IsThreadNumber s.layout c.load.thread × (c.load.location < s.layout.locations) };
+
+    fn offer_at<S: ClauseSink>(
+        &self,
+        i: ViewAtom,
+        setting: &Setting,
+        into: &mut S,
+    ) -> Result<(), S::Fault> {
+        if self.own {
+            gains(self.load.newest(), i).offer_at((), setting, into)
+        } else {
+            frame(i).offer_at((), setting, into)
+        }
+    }
+}
+
 /// What a thread reads of a location at a load, or at a cas that fails, it could read after the value that this gave.
-#[derive(Clone, Copy)]
+#[derive(Drop)]
 pub struct ReadThen {
     pub load: Load,
     pub location: u8,

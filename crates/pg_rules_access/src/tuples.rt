@@ -49,7 +49,7 @@ pub trait Says {
 }
 
 /// What is said at each tuple of values of these scalars.
-#[derive(Clone, Copy)]
+#[derive(Drop)]
 pub struct Tuples<T>(pub T);
 
 impl<T: Says> Rows<()> for Tuples<T> {

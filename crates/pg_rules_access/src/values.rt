@@ -17,9 +17,7 @@ use crate::tuples::{Says, Tuples};
 use pg_assertion::{Layout, Side, StepAtom, ViewAtom};
 use pg_program::{AuxAssign, Branch, Cond, Expr, NameKind, Names, eval, holds_cond};
 use pg_region::ClauseSink;
-use pg_tables::{
-    HasValues, Rows, Setting, StepLiteral, after, always, before, implies, never,
-};
+use pg_tables::{HasValues, Rows, Setting, StepLiteral, after, always, before, implies, never};
 
 /// Whether an expression reads a scalar.
 fn reads(expr: &Expr, r: u8) -> bool
@@ -35,7 +33,7 @@ fn reads(expr: &Expr, r: u8) -> bool
 }
 
 /// What a step stores or assigns has the expression's value.
-#[derive(Clone, Copy)]
+#[derive(Drop)]
 pub struct Stored<'a> {
     pub expr: &'a Expr,
 }
@@ -67,7 +65,7 @@ impl<'a> Says for Stored<'a> {
 }
 
 /// What a cas expects has the expression's value.
-#[derive(Clone, Copy)]
+#[derive(Drop)]
 pub struct Expects<'a> {
     pub expr: &'a Expr,
 }
@@ -99,7 +97,7 @@ impl<'a> Says for Expects<'a> {
 }
 
 /// A test holds, or does not.
-#[derive(Clone, Copy)]
+#[derive(Drop)]
 pub struct Tests<'a> {
     pub test: &'a Cond,
 }
@@ -130,7 +128,7 @@ impl<'a> Says for Tests<'a> {
 }
 
 /// An assignment of a bracket gives its target the expression's value.
-#[derive(Clone, Copy)]
+#[derive(Drop)]
 pub struct Assigns<'a> {
     pub names: &'a Names,
     pub assign: &'a AuxAssign,
@@ -179,7 +177,7 @@ fn is_auxiliary(names: &Names, r: u8) -> bool
 }
 
 /// The assignments of a bracket.
-#[derive(Clone, Copy)]
+#[derive(Drop)]
 pub struct Bracket<'a> {
     pub names: &'a Names,
     pub aux: &'a [AuxAssign],
@@ -245,7 +243,7 @@ impl HasValues<()> for ExpectedValues {
 }
 
 /// Where a value is expected, it is the last one of the location.
-#[derive(Clone, Copy)]
+#[derive(Drop)]
 pub struct ExpectsLast {
     pub location: u8,
 }
@@ -271,7 +269,7 @@ impl Rows<((), u8)> for ExpectsLast {
 }
 
 /// The step that a test takes.
-#[derive(Clone, Copy)]
+#[derive(Drop)]
 pub struct TakenOn {
     pub branch: Branch,
 }

@@ -9,8 +9,8 @@ use Rattle.pg_rules_access.proofs.Acts.{whole}
 use Rattle.pg_rules_access.proofs.StmtOver.{stmt_over}
 use Rattle.pg_rules_access.proofs.emitter.access_rules.Goals as goal
 
-pub offer_act-requires-clause-of : goal.offer_act-requires-clause-of
-offer_act-requires-clause-of g c =
+pub offer_act-requires-clause-context : goal.offer_act-requires-clause-context
+offer_act-requires-clause-context g c =
     let p = c.args.p.now in
     let step = c.args.step.now in
     let at : stmt_at p step.thread step.point ≡ Some c.in-Some.stmt.now = sym c.in-Some.ensures in
