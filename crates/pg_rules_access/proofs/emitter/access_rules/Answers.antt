@@ -14,7 +14,7 @@ offer_act-requires-clause-context g c =
     let p = c.args.p.now in
     let step = c.args.step.now in
     let at : stmt_at p step.thread step.point ≡ Some c.in-Some.stmt.now = sym c.in-Some.ensures in
-    let most : c.args.layout.now.scalars ≤ 16 = c.scalars-few.ensures.limits.few_scalars in
+    let most : c.args.layout.now.scalars ≤ 16 = c.scalars.ensures.limits.few_scalars in
     let few : length p.names.scalars ≤ 16 = omega (arith, most, ap (λ (l : Sizes). l.scalars) c.requires.layout) in
     let over = subst (λ (l : Sizes). IsStmtOver l c.in-Some.stmt.now) (sym c.requires.layout)
     (stmt_over p c.names.ensures.built few step.thread step.point c.in-Some.stmt.now c.requires.step.thread.0 c.requires.step.thread.1 at) in
@@ -32,7 +32,7 @@ offer_act-requires-clause-act g c =
     let p = c.args.p.now in
     let step = c.args.step.now in
     let at : stmt_at p step.thread step.point ≡ Some c.in-Some.stmt.now = sym c.in-Some.ensures in
-    let most : c.args.layout.now.scalars ≤ 16 = c.scalars-few.ensures.limits.few_scalars in
+    let most : c.args.layout.now.scalars ≤ 16 = c.scalars.ensures.limits.few_scalars in
     let few : length p.names.scalars ≤ 16 = omega (arith, most, ap (λ (l : Sizes). l.scalars) c.requires.layout) in
     let over = subst (λ (l : Sizes). IsStmtOver l c.in-Some.stmt.now) (sym c.requires.layout)
     (stmt_over p c.names.ensures.built few step.thread step.point c.in-Some.stmt.now c.requires.step.thread.0 c.requires.step.thread.1 at) in
