@@ -1,0 +1,10 @@
+pub mod Places
+pub mod Counts
+pub mod Along
+pub mod Members
+pub mod Taken
+pub mod FreshValues
+pub mod Follows
+pub mod Registers
+pub mod ErasedSteps
+pub mod ErasedRuns
