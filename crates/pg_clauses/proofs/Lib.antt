@@ -1,0 +1,5 @@
+pub mod Emitted
+pub mod Bools
+pub mod Truths
+pub mod Numbers
+pub mod Nodes

@@ -1,0 +1,3 @@
+pub mod Definitional
+pub mod Truth
+pub mod Made
