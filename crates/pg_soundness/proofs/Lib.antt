@@ -2,3 +2,4 @@ mod PersistShown
 mod PersistBounds
 mod PersistRows
 mod PersistTrue
+pub mod Stepped
