@@ -3,3 +3,4 @@ mod PersistBounds
 mod PersistRows
 mod PersistTrue
 pub mod Stepped
+pub mod Rows
