@@ -96,7 +96,7 @@ few_of l rs h =
 
 -- ---- no expression of a statement reads many
 
-at_thread : (C : PointId → Stmt → Option Fault) (t : ℕ) (threads : List (List Stmt)) (i : ℕ) → in_threads C t threads ≡ None → i < length threads
+pub at_thread : (C : PointId → Stmt → Option Fault) (t : ℕ) (threads : List (List Stmt)) (i : ℕ) → in_threads C t threads ≡ None → i < length threads
     → in_thread C (t + i) 1 (statements (block (get_or threads i []))) ≡ None
 at_thread C t [] i h lt = absurd (omega arith)
 at_thread C t (ss ∷ threads) zero h lt =
@@ -106,7 +106,7 @@ at_thread C t (ss ∷ threads) (suc i) h lt =
     ap (λ (n : ℕ). in_thread C n 1 (statements (block (get_or threads i [])))) (let q : t + suc i ≡ t + 1 + i = omega arith in q)
     ∙ at_thread C (t + 1) threads i (none_of (in_thread C t 1 (statements (block ss))) (in_threads C (t + 1) threads) h).1 (omega arith)
 
-at_stmt : (C : PointId → Stmt → Option Fault) (t k : ℕ) (ss : List Stmt) (i : ℕ) (s : Stmt) → in_thread C t k ss ≡ None → slice_get ss i ≡ Some s
+pub at_stmt : (C : PointId → Stmt → Option Fault) (t k : ℕ) (ss : List Stmt) (i : ℕ) (s : Stmt) → in_thread C t k ss ≡ None → slice_get ss i ≡ Some s
     → C (record { thread = t; point = k + i }) s ≡ None
 at_stmt C t k [] i s h at = cc
 at_stmt C t k (u ∷ ss) zero s h at =

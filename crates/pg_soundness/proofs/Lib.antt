@@ -4,3 +4,4 @@ mod PersistRows
 mod PersistTrue
 pub mod Stepped
 pub mod Rows
+pub mod Views
