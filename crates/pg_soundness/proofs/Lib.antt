@@ -5,3 +5,4 @@ mod PersistTrue
 pub mod Stepped
 pub mod Rows
 pub mod Views
+pub mod Tuples
