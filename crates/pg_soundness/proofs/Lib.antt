@@ -6,3 +6,8 @@ pub mod Stepped
 pub mod Rows
 pub mod Views
 pub mod Tuples
+pub mod Expressions
+pub mod Assignments
+pub mod Kept
+pub mod FenceRows
+pub mod LoadRows

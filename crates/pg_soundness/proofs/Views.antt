@@ -1,9 +1,9 @@
 -- What a load and a fence leave of what their thread may read, and of what its fences and flushes cover.
-use Rattle.std.proofs.Common.{◌≡◌, ◌≢◌, ℕ, suc, ◌<◌, ◌≤◌, ◌==◌, max, nat_le, Bool, true, false, not, ◌||◌, ◌⊎◌, List, length, get_or, set, inl, inr, refl, sym, ap, ◌∙◌, arith}
+use Rattle.std.proofs.Common.{◌≡◌, ℕ, suc, ◌<◌, ◌≤◌, ◌==◌, max, nat_le, Bool, true, false, not, ◌||◌, ◌⊎◌, length, set, inl, inr, refl, sym, ap, ◌∙◌, arith}
 use Rattle.std.proofs.lemmas.Bool.{cases_eq, leb-true, le-leb}
-use Rattle.pg_machine.specs.Memory.{line_of, is_at, last, last_upto}
+use Rattle.pg_machine.specs.Memory.{line_of, is_at, last}
 use Rattle.pg_machine.specs.State.{Views, AreViews, coh_of, maxcoh, ordered, greatest, greatest_on}
-use Rattle.pg_machine.specs.Moves.{Seen, can_read, loaded, load_seen, mfence_seen, sfence_seen, fenced, store_fenced}
+use Rattle.pg_machine.specs.Moves.{Seen, can_read, loaded, load_seen, mfence_seen, fenced, store_fenced}
 use Rattle.pg_machine.proofs.Appended.{last_upto-within}
 use Rattle.pg_machine.proofs.EveryBelow.{every_below-all}
 use Rattle.pg_machine.proofs.PositionLists.{greatest-above, greatest-raised, greatest_on-within, greatest_on-above, greatest_on-raised, greatest_on-other}
