@@ -11,3 +11,6 @@ pub mod Assignments
 pub mod Kept
 pub mod FenceRows
 pub mod LoadRows
+pub mod Tests
+pub mod Longer
+pub mod StoredOther
