@@ -14,3 +14,4 @@ pub mod LoadRows
 pub mod Tests
 pub mod Longer
 pub mod StoredOther
+pub mod Stored
