@@ -15,3 +15,4 @@ pub mod Tests
 pub mod Longer
 pub mod StoredOther
 pub mod Stored
+pub mod Swapped
