@@ -16,3 +16,4 @@ pub mod Longer
 pub mod StoredOther
 pub mod Stored
 pub mod Swapped
+pub mod Missed
