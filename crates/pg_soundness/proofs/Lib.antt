@@ -17,3 +17,4 @@ pub mod StoredOther
 pub mod Stored
 pub mod Swapped
 pub mod Missed
+pub mod WrittenRows
