@@ -18,3 +18,4 @@ pub mod Stored
 pub mod Swapped
 pub mod Missed
 pub mod WrittenRows
+pub mod StoreRows

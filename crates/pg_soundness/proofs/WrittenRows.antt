@@ -15,6 +15,7 @@ use Rattle.pg_machine.specs.Moves.{Seen}
 use Rattle.pg_machine.specs.Step.{seen_by, views_of}
 use Rattle.pg_views.specs.Atom.{is_last, may_read, may_read_then, reads_newest, covers_ordered, covers_fenced}
 use Rattle.pg_views.specs.Valuation.{is_some, new_value, step_atom_holds}
+use Rattle.pg_tables.specs.declared.clause.StepLiteral.{StepLiteral}
 use Rattle.pg_tables.specs.Shapes.{before, after}
 use Rattle.pg_tables.specs.Truth.{AllTrue}
 use Rattle.pg_tables.proofs.Truth.{all-never, all-becomes, all-gains, all-gains_both}
@@ -32,6 +33,14 @@ pub record Writes (d : ℕ) (act : Act-F Act Stmt) (s next : State) (l : Sizes) 
   pub views : (u : ℕ) → IsThreadNumber l u → AreViews s.memory (views_of s u)
   pub inside : x < length s.memory.initial
   pub located : length s.memory.initial ≡ l.locations
+
+-- the row of a thread is that of the thread t, or of another one
+pub by_own : (val : StepAtom → Bool) (t : ℕ) (row : Bool → ℕ → List (List StepLiteral)) (u : ℕ) → AllTrue val (row true t) → (u ≢ t → AllTrue val (row false u)) → AllTrue val (row (u == t) u)
+by_own val t row u own other = by (u == t) refl
+  where
+    by : (b : Bool) → (u == t) ≡ b → AllTrue val (row b u)
+    by true is = subst (λ (k : ℕ). AllTrue val (row true k)) (sym (eqb-true u t is)) own
+    by false is = other (eqb-false u t is)
 
 -- two reads of the location: the new message is one of them, or both, or neither
 twice-apart : (is was read from to : Bool) → is ≡ ((from && to) || (was || (read && to)))
@@ -68,7 +77,7 @@ module _ (d : ℕ) (act : Act-F Act Stmt) (choice : Option ℕ) (s next : State)
   abbrev val : StepAtom → Bool
   val = step_atom_holds d act choice s next
 
-  value-is : (v : ℕ) → (e == v) ≡ val (Value v)
+  pub value-is : (v : ℕ) → (e == v) ≡ val (Value v)
   value-is v = sym (ap (λ (o : Option ℕ). is_some o v) h.value)
 
   -- ---- last values
