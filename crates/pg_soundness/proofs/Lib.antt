@@ -19,3 +19,6 @@ pub mod Swapped
 pub mod Missed
 pub mod WrittenRows
 pub mod StoreRows
+pub mod AccessTrue
+pub mod CasShapes
+pub mod SwappedRows
