@@ -22,3 +22,4 @@ pub mod StoreRows
 pub mod AccessTrue
 pub mod CasShapes
 pub mod SwappedRows
+pub mod MissedRows
