@@ -23,3 +23,4 @@ pub mod AccessTrue
 pub mod CasShapes
 pub mod SwappedRows
 pub mod MissedRows
+pub mod CasRows
