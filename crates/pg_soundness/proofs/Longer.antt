@@ -89,22 +89,3 @@ shown-last m x c n v at le =
     let is = shown_where m x c n v h in
     ap (λ (p : ℕ). value_at m x p == v) (sym (last-alone m.messages x c n le is.0 is.1.reached)) ∙ is.1.value)
     (λ h. last-shown m x c n v at h)
-
--- a thread reads x at its last position alone just where that is the least that it may read at
-pub newest-is : (n : Seen) (x : ℕ) → is_at n.memory.messages x (coh_of n.views x) ≡ true
-    → reads_newest n x ≡ nat_le (last n.memory.messages x) (least n.memory.messages x (coh_of n.views x) n.views.vrn)
-newest-is n x at =
-    same_truth (reads_newest n x) (nat_le top (least n.memory.messages x (coh_of n.views x) n.views.vrn))
-    (λ h.
-    let e = alone-least n.memory.messages x (coh_of n.views x) n.views.vrn top at (newest-alone n x h) in
-    le-leb top (least n.memory.messages x (coh_of n.views x) n.views.vrn) (omega (arith, e)))
-    (λ h.
-    let le = leb-true top (least n.memory.messages x (coh_of n.views x) n.views.vrn) h in
-    every_below-all (λ p. not (can_read n x p) || (p == top)) (suc (length n.memory.messages)) (λ q lt. by le q (can_read n x q) refl))
-  where
-    top : ℕ
-    top = last n.memory.messages x
-
-    by : top ≤ least n.memory.messages x (coh_of n.views x) n.views.vrn → (q : ℕ) (b : Bool) → can_read n x q ≡ b → (not (can_read n x q) || (q == top)) ≡ true
-    by le q true is = newest-last n x q (last-alone n.memory.messages x (coh_of n.views x) n.views.vrn le q is)
-    by le q false is = newest-unread n x q is

@@ -14,30 +14,8 @@ use Rattle.pg_views.specs.Laws.{IsRaised}
 use Rattle.pg_views.proofs.Axioms.{then-at}
 use Rattle.pg_views.proofs.Below.{shown-at}
 use Rattle.pg_views.proofs.Readable.{raised_reaches_less, raised_reads_less, fence-raised, load-raised}
-use Rattle.pg_soundness.proofs.Longer.{newest-is}
 use Rattle.pg_soundness.proofs.StoredOther.{loaded-views}
-
--- ---- after an `mfence`
-
--- the last position alone may be read just where a `flush` covers it, and just where a `flushopt` does
-pub fenced-newest : (n : Seen) → AreViews n.memory n.views → (y : ℕ) → reads_newest (fenced n) y ≡ covers_fenced (fenced n) y
-fenced-newest n h y =
-    let low = greatest-above n.views.coh y in
-    newest-is (fenced n) y (coh-at n.memory n.views h y)
-    ∙ same_truth (nat_le top (least n.memory.messages y (coh_of n.views y) (maxcoh n.views))) (nat_le top (maxcoh n.views))
-    (λ is. le-leb top (maxcoh n.views) (last-within n.memory.messages y (coh_of n.views y) (maxcoh n.views) low (leb-true top _ is)))
-    (λ is. le-leb top (least n.memory.messages y (coh_of n.views y) (maxcoh n.views)) (within-last n.memory.messages y (coh_of n.views y) (maxcoh n.views) (leb-true top (maxcoh n.views) is)))
-  where
-    top : ℕ
-    top = last n.memory.messages y
-
-pub fenced-ordered : (n : Seen) (y : ℕ) → covers_ordered (fenced n) y ≡ covers_fenced (fenced n) y
-fenced-ordered n y =
-    let within = greatest_on-within n.memory.lines n.views.coh (line_of n.memory y) in
-    let e : ordered n.memory.lines (mfence_seen n.views) (line_of n.memory y) ≡ maxcoh n.views = omega (arith, within) in
-    ap (nat_le (last n.memory.messages y)) e
-
--- ---- after a failing cas
+use Rattle.pg_soundness.proofs.Views.{fence-newest, fence-ordered}
 
 module _ (n : Seen) (x p : ℕ) (h : AreViews n.memory n.views) (inside : x < length n.memory.initial) (can : can_read (fenced n) x p ≡ true) where
   abbrev ahead : Seen
@@ -109,10 +87,10 @@ module _ (n : Seen) (x p : ℕ) (h : AreViews n.memory n.views) (inside : x < le
   -- ---- the last position
 
   pub missed-newest : (y : ℕ) → reads_newest now y ≡ covers_fenced now y
-  missed-newest y = fenced-newest read read-views y
+  missed-newest y = fence-newest read read-views y
 
   pub missed-ordered : (y : ℕ) → covers_ordered now y ≡ covers_fenced now y
-  missed-ordered y = fenced-ordered read y
+  missed-ordered y = fence-ordered read read-views y
 
   greatest-is : maxcoh now.views ≡ max (maxcoh n.views) p
   greatest-is =

@@ -31,6 +31,7 @@ use Rattle.pg_rules_access.specs.Store.{store, store_read, store_then, store_new
 use Rattle.pg_soundness.proofs.Rows.{AreRows, scalar-after}
 use Rattle.pg_soundness.proofs.Stepped.{Stepped}
 use Rattle.pg_soundness.proofs.Stored as law
+use Rattle.pg_soundness.proofs.Tests.{and-self}
 use Rattle.pg_soundness.proofs.WrittenRows.{Writes, by_own, value-is, written-last, written-read, written-then, written-newest, written-ordered, written-fenced}
 
 -- The act of thread t stores e to x.
@@ -40,10 +41,6 @@ pub record Stores (names : NameTable) (d : ℕ) (act : Act-F Act Stmt) (s next :
   pub own_views : AreViews s.memory (views_of s t)
   pub lined : length s.memory.lines ≡ length s.memory.initial
   pub on_lines : s.memory.lines ≡ lines names
-
-and-self : (b : Bool) → (b && b) ≡ b
-and-self true = refl
-and-self false = refl
 
 module _ (names : NameTable) (d : ℕ) (act : Act-F Act Stmt) (choice : Option ℕ) (s next : State) (l : Sizes) (t x e : ℕ) (h : Stores names d act s next l t x e) where
   abbrev val : StepAtom → Bool

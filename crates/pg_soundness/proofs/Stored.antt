@@ -14,7 +14,8 @@ use Rattle.pg_views.specs.Atom.{some_below, is_shown, shows, is_last, reads, may
 use Rattle.pg_views.proofs.Axioms.{then_where, then-at}
 use Rattle.pg_views.proofs.Readable.{newest-alone, newest_load_keeps_values}
 use Rattle.pg_soundness.proofs.Tests.{some_below-alike, and-where, some_below-and}
-use Rattle.pg_soundness.proofs.Longer.{last-here, last-there, is_last-here, shows-front, shows-none, some-longer, shown-there, shown-last, newest-is}
+use Rattle.pg_soundness.proofs.Views.{newest-is}
+use Rattle.pg_soundness.proofs.Longer.{last-here, last-there, is_last-here, shows-front, shows-none, some-longer, shown-there, shown-last}
 use Rattle.pg_soundness.proofs.StoredOther.{read-within, loaded-views}
 
 -- where the last position alone may be read, the last value is what is loaded, and the load leaves what may be read

@@ -12,7 +12,8 @@ use Rattle.pg_machine.proofs.ViewLaws.{coh-at, maxcoh-within}
 use Rattle.pg_machine.proofs.ViewsKept.{load_views, views_stay}
 use Rattle.pg_views.specs.Atom.{some_below, is_last, reads, may_read, may_read_then, reads_newest, covers_ordered, covers_fenced}
 use Rattle.pg_soundness.proofs.Tests.{or-swap, some_below-alike, and-where, some_below-or}
-use Rattle.pg_soundness.proofs.Longer.{last-here, last-there, is_last-here, is_last-there, shows-front, shows-new, shows-none, some-longer, shown-here, shown-there, shown-last, newest-is}
+use Rattle.pg_soundness.proofs.Views.{newest-is}
+use Rattle.pg_soundness.proofs.Longer.{last-here, last-there, is_last-here, is_last-there, shows-front, shows-new, shows-none, some-longer, shown-here, shown-there, shown-last}
 
 -- the same views over a memory with a message more
 abbrev pub longer : Seen → ℕ × ℕ → Seen

@@ -11,9 +11,9 @@ use Rattle.pg_machine.proofs.ViewLaws.{coh-at}
 use Rattle.pg_machine.proofs.ViewsKept.{mfence_views}
 use Rattle.pg_machine.proofs.WellFormed.{swap_is_store_then_fence}
 use Rattle.pg_views.specs.Atom.{is_last, may_read, may_read_then, reads_newest, covers_ordered, covers_fenced}
-use Rattle.pg_soundness.proofs.Longer.{newest-is}
 use Rattle.pg_soundness.proofs.Stored.{then-newest, stored-views}
 use Rattle.pg_soundness.proofs.StoredOther.{read-last}
+use Rattle.pg_soundness.proofs.Views.{newest-is}
 
 module _ (n : Seen) (x e : ℕ) (h : AreViews n.memory n.views) (inside : x < length n.memory.initial) where
   abbrev now : Seen

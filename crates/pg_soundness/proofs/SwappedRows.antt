@@ -28,6 +28,7 @@ use Rattle.pg_rules_access.specs.Cas.{cas, cas_scalar, cas_read, own_read, cas_t
 use Rattle.pg_soundness.proofs.CasShapes.{succeeded, stored_if}
 use Rattle.pg_soundness.proofs.Rows.{AreRows}
 use Rattle.pg_soundness.proofs.Swapped as law
+use Rattle.pg_soundness.proofs.Tests.{and-self}
 use Rattle.pg_soundness.proofs.WrittenRows.{Writes, by_own, written-last, written-read, written-then, written-newest, written-ordered, written-fenced}
 
 -- The act of thread t is a cas that expects g, and succeeds in writing e to x.
@@ -66,10 +67,6 @@ module _ (names : NameTable) (d : ℕ) (act : Act-F Act Stmt) (choice : Option �
   both-last z v y w lt =
       ap (λ (k : Seen). may_read_then k z v y w) h.own
       ∙ (law.swapped-then n x e h.own_views inside z v y w (within z lt) ∙ ap₂ (λ (a b : Bool). a && b) (lasts z v) (lasts y w))
-
-  and-self : (b : Bool) → (b && b) ≡ b
-  and-self true = refl
-  and-self false = refl
 
   then-own : (z v y w : ℕ) → z < l.locations → AllTrue val (own_then (z == y && v == w) t z v y w)
   then-own z v y w lt = by (z == y && v == w) refl

@@ -8,6 +8,10 @@ or-swap true false = refl
 or-swap false true = refl
 or-swap false false = refl
 
+pub and-self : (b : Bool) → (b && b) ≡ b
+and-self true = refl
+and-self false = refl
+
 -- tests that agree below n
 pub some_below-alike : (f g : ℕ → Bool) (n : ℕ) → ((p : ℕ) → p < n → f p ≡ g p) → some_below f n ≡ some_below g n
 some_below-alike f g zero h = refl
