@@ -153,9 +153,9 @@ are_set d seen [] r differ inside = tt
 are_set d seen (a ∷ rest) r differ inside =
     let size = length-set r a.target (value seen d a.expr) in (
       assigned-other d seen rest (set r a.target (value seen d a.expr)) a.target differ.0
-      ∙ get_or-set_same r a.target (value seen d a.expr) 0 (All-head (λ (b : AuxAssign). b.target < length r) a rest inside),
+          ∙ get_or-set_same r a.target (value seen d a.expr) 0 (All-head (λ (b : AuxAssign). b.target < length r) a rest inside),
       are_set d seen rest (set r a.target (value seen d a.expr)) differ.1
-      (subst (λ (n : ℕ). All (λ (b : AuxAssign). b.target < n) rest) (sym size) (All-tail (λ (b : AuxAssign). b.target < length r) a rest inside)),
+          (subst (λ (n : ℕ). All (λ (b : AuxAssign). b.target < n) rest) (sym size) (All-tail (λ (b : AuxAssign). b.target < length r) a rest inside)),
     )
 
 -- ---- the rules of a bracket
@@ -204,7 +204,7 @@ module _ (p : ProgramTable) (s : State) (e : Event) (step : Step) (next : State)
   true_bracket =
       let d = p.names.domain in
       let names = subst (λ (n : ℕ). All (λ (r : ℕ). r < n) (bracket_scalars (bracket_of stmt))) h.formed.scalars.0
-          (all_right (length s.scalars) (outside stmt) (bracket_scalars (bracket_of stmt)) h.over_scalars) in
+      (all_right (length s.scalars) (outside stmt) (bracket_scalars (bracket_of stmt)) h.over_scalars) in
       let size : length left.scalars ≡ length p.names.scalars = sym (assigned-length d left.scalars (bracket_of stmt) left.scalars) ∙ (sym (ap length h.scalars) ∙ h.formed_next.scalars.0) in
       let inside = subst (λ (n : ℕ). All (λ (a : AuxAssign). a.target < n) (bracket_of stmt)) (sym size) (bracket_targets (length p.names.scalars) (bracket_of stmt) names) in
       true_assigns (bracket_of stmt) (bracket_names (length p.names.scalars) (bracket_of stmt) names)

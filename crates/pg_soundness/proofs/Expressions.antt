@@ -1,7 +1,7 @@
 -- What the rules say of the expressions of a step is true: which value it stores or expects, and whether its test holds.
 use Rattle.std.proofs.Common.{◌≡◌, ℕ, ◌<◌, ◌≤◌, ◌==◌, Bool, true, false, cond, not, List, [], ◌∷◌, ◌++◌, get_or, refl, sym, ap, ap₂, subst, ◌∙◌, arith}
 use Rattle.std.specs.List.{All}
-use Rattle.std.proofs.lemmas.Bool.{eqb-true, eq-eqb, or_left, true≢false}
+use Rattle.std.proofs.lemmas.Bool.{eqb-true, eq-eqb, true≢false}
 use Rattle.pg_program.specs.declared.syntax.Expr.{Expr, out-Expr, fold_out-Expr}
 use Rattle.pg_program.specs.declared.syntax.Expr.TheFolds.{map-Expr}
 use Rattle.pg_program.specs.declared.syntax.Expr.TheOpen as expr
@@ -18,10 +18,11 @@ use Rattle.pg_assertion.specs.Layout.{Sizes}
 use Rattle.pg_tables.specs.Clause.{yes, no}
 use Rattle.pg_tables.specs.Shapes.{before}
 use Rattle.pg_tables.specs.Truth.{AllTrue, literal_true}
-use Rattle.pg_tables.proofs.Truth.{all-one, all-append, all-values, all-succeeds, all-always, all-never, ruled}
+use Rattle.pg_tables.proofs.Truth.{all-one, all-append, all-values, all-succeeds, all-always, all-never}
 use Rattle.pg_tables.proofs.OneValue.{all-exactly_one}
 use Rattle.pg_machine.proofs.Uses.{get-below}
 use Rattle.pg_rules_access.specs.Values.{value_rules, expects_last, says_test, taken, test_rules, all_before}
+use Rattle.pg_soundness.proofs.Rows.{gives}
 use Rattle.pg_soundness.proofs.Tuples.{Agrees, same_value, all-tuples}
 
 -- ---- values are in the domain
@@ -85,8 +86,7 @@ module _ (val : StepAtom → Bool) (l : Sizes) (r : List ℕ) (h : AreBefore val
       (goes (test_holds r l.domain t) branch is same)
 
 -- a cas that succeeds expects the last value
-pub true_expects : (val : StepAtom → Bool) (l : Sizes) (x v : ℕ) → (val Success ≡ true → (k : ℕ) → val (Expected k) ≡ true → val (before (Last x k)) ≡ true)
+pub true_expects : (val : StepAtom → Bool) (l : Sizes) (x : ℕ) → (val Success ≡ true → (k : ℕ) → val (Expected k) ≡ true → val (before (Last x k)) ≡ true)
     → AllTrue val (expects_last l x)
-true_expects val l x v h =
-    all-succeeds val _ (λ is. all-values val l (λ k ik. all-one val _
-    (ruled val val (λ a. a) (λ a. refl) (Expected k ∷ []) (before (Last x k) ∷ []) (λ t. or_left (val (before (Last x k))) false (h is k t.0)))))
+true_expects val l x h =
+    all-succeeds val _ (λ is. all-values val l (λ k ik. all-one val _ (gives val (Expected k ∷ []) (before (Last x k)) (λ t. h is k t.0))))

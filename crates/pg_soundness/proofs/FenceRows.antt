@@ -74,7 +74,7 @@ module _ (p : ProgramTable) (s : State) (e : Event) (step : Step) (next : State)
       let same : left.seen.memory ≡ s.memory = ap (λ (m : Seen). m.memory) sees in
       let by : (f : Seen → Bool) → f left.seen ≡ f (store_fenced n) = λ f. ap f sees in
       let frames : (t : ℕ) → 1 ≤ t → (a : ViewAtom) (f : Seen → Bool) → atom_holds next a ≡ f (seen_by next t) → atom_holds s a ≡ f (seen_by s t) → f (store_fenced n) ≡ f n → AllTrue val (frame a) =
-          λ t from a f new old kept. framed p s e step next stmt left h act choice a (new ∙ (kept-at p s e step next stmt left h act choice same t from f (by f ∙ kept) ∙ sym old)) in
+      λ t from a f new old kept. framed p s e step next stmt left h act choice a (new ∙ (kept-at p s e step next stmt left h act choice same t from f (by f ∙ kept) ∙ sym old)) in
       record {
         last = λ z v i. same_last p s e step next stmt left h act choice same z v;
         read = λ t z v i. frames t i.0.first (Read t z v) (λ m. may_read m z v) refl refl refl;

@@ -1,6 +1,6 @@
 -- The rows of a load are true.
-use Rattle.std.proofs.Common.{◌≡◌, ◌≢◌, ℕ, ◌<◌, ◌≤◌, ◌==◌, Bool, true, false, not, List, [], ◌∷◌, length, get_or, set, Option, refl, sym, ap, subst, ◌∙◌, arith}
-use Rattle.std.proofs.lemmas.Bool.{or_left, or_right, and_from}
+use Rattle.std.proofs.Common.{◌≡◌, ◌≢◌, ℕ, ◌<◌, ◌≤◌, ◌==◌, Bool, true, false, List, [], ◌∷◌, length, get_or, set, Option, refl, sym, ap, subst, ◌∙◌, arith}
+use Rattle.std.proofs.lemmas.Bool.{and_from}
 use Rattle.std.proofs.lemmas.List.{get_or-set_same, get_or-set_other}
 use Rattle.pg_program.specs.declared.syntax.Stmt.{Stmt}
 use Rattle.pg_program.specs.declared.syntax.Act.{Act}
@@ -23,22 +23,14 @@ use Rattle.pg_views.specs.Atom.{may_read, may_read_then, reads_newest, covers_or
 use Rattle.pg_views.specs.Valuation.{step_atom_holds}
 use Rattle.pg_views.proofs.Axioms.{then-at}
 use Rattle.pg_views.proofs.Below.{shown-at}
-use Rattle.pg_tables.specs.Clause.{implies}
 use Rattle.pg_tables.specs.Shapes.{before, after, frame}
-use Rattle.pg_tables.specs.Truth.{AllTrue, clause_true}
-use Rattle.pg_tables.proofs.Truth.{all-one, all-cons, all-append, all-values, all-only_where, AllOf, by_truth}
+use Rattle.pg_tables.specs.Truth.{AllTrue}
+use Rattle.pg_tables.proofs.Truth.{all-one, all-cons, all-append, all-values, all-only_where}
 use Rattle.pg_rules_access.specs.Load.{load_loses, load_gains, load_scalar, load_read, load_then, load_view, load}
 use Rattle.pg_soundness.proofs.Stepped.{Stepped}
-use Rattle.pg_soundness.proofs.Rows.{AreRows, scalar-after}
+use Rattle.pg_soundness.proofs.Rows.{AreRows, gives, scalar-after}
 use Rattle.pg_soundness.proofs.Views as views
 use Rattle.pg_soundness.proofs.Kept.{by_same, framed, framed_scalar, same_other, same_last}
-
--- the clause `ls => a`
-pub gives : (val : StepAtom → Bool) (ls : List StepAtom) (a : StepAtom) → (AllOf val ls → val a ≡ true) → clause_true val (implies ls (a ∷ [])) ≡ true
-gives val [] a h = or_left (val a) false (h tt)
-gives val (b ∷ ls) a h = by_truth (val b)
-    (λ is. or_right (not (val b)) (clause_true val (implies ls (a ∷ []))) (gives val ls a (λ t. h (is, t))))
-    (λ is. or_left (not (val b)) (clause_true val (implies ls (a ∷ []))) (ap not is))
 
 -- A load of x at p into r: the thread could read x there.
 pub record LoadsAt (n : Seen) (before : List ℕ) (r x p : ℕ) (left : Left) : Type 0 where
@@ -104,7 +96,6 @@ module _ (p : ProgramTable) (s : State) (e : Event) (step : Step) (next : State)
     own-gains more keeps =
         all-cons val _ _ (gives val (before a ∷ []) (after a) (λ t. new ∙ more (sym old ∙ t.0)))
         (all-one val _ (gives val (before (Newest e.thread x) ∷ after a ∷ []) (before a) (λ t. old ∙ (sym (keeps t.0) ∙ (sym new ∙ t.1.0)))))
-
 
   own-read : (z w : ℕ) → AllTrue val (load_read l true e.thread r x e.thread z w)
   own-read z w =

@@ -1,17 +1,12 @@
 -- A memory with one message more: which positions are the last ones there, and which values are shown.
-use Rattle.std.proofs.Common.{◌≡◌, ◌≢◌, ℕ, zero, suc, ◌<◌, ◌≤◌, ◌==◌, max, nat_le, Bool, true, false, cond, not, ◌&&◌, ◌||◌, List, [], ◌∷◌, ◌++◌, length, get_or, refl, sym, ap, ap₂, ◌∙◌, arith}
-use Rattle.std.proofs.lemmas.Bool.{and_parts, ne_eqb, le-leb, leb-true}
+use Rattle.std.proofs.Common.{◌≡◌, ◌≢◌, ℕ, zero, suc, ◌≤◌, ◌==◌, Bool, true, false, cond, ◌&&◌, ◌||◌, List, [], ◌∷◌, ◌++◌, length, refl, sym, ap, ap₂, ◌∙◌, arith}
+use Rattle.std.proofs.lemmas.Bool.{ne_eqb}
 use Rattle.std.proofs.lemmas.List.{get_or_append_left, get_or_push}
-use Rattle.pg_machine.specs.Memory.{Memory, is_at, reaches, value_at, last_upto, last, last_value, message_appended}
-use Rattle.pg_machine.specs.State.{coh_of}
-use Rattle.pg_machine.specs.Moves.{Seen, can_read}
+use Rattle.pg_machine.specs.Memory.{Memory, is_at, value_at, last_upto, last, last_value, message_appended}
 use Rattle.pg_machine.proofs.Appended.{same_number, is_to-new, length-appended, last_upto-front, last_upto-within, last_value-appended}
-use Rattle.pg_machine.proofs.EveryBelow.{every_below-all}
-use Rattle.pg_machine.proofs.Reached.{least, last-above, last-alone, alone-least, same_truth, reaches-front, reaches-new, reaches-other}
-use Rattle.pg_views.specs.Atom.{some_below, shows, is_shown, is_last, reads_newest}
+use Rattle.pg_machine.proofs.Reached.{least, last-above, last-alone, same_truth, reaches-front, reaches-new, reaches-other}
+use Rattle.pg_views.specs.Atom.{some_below, shows, is_shown, is_last}
 use Rattle.pg_views.proofs.Axioms.{last-shown, shown_where}
-use Rattle.pg_views.proofs.Below.{newest-unread, newest-last}
-use Rattle.pg_views.proofs.Readable.{newest-alone}
 use Rattle.pg_soundness.proofs.Tests.{or-swap, some_below-alike}
 
 -- ---- the last position

@@ -1,13 +1,12 @@
 -- What a failing cas leaves to the thread that acts: an `mfence`, a load at a position of the location, and an `mfence`.
-use Rattle.std.proofs.Common.{◌≡◌, ℕ, suc, ◌<◌, ◌≤◌, ◌==◌, max, nat_le, Bool, true, ◌&&◌, length, set, refl, sym, ap, ◌∙◌, arith}
-use Rattle.std.proofs.lemmas.Bool.{and_from, le-leb, leb-true, eqb-true, eq-eqb}
-use Rattle.pg_machine.specs.Memory.{Memory, line_of, is_at, last, value_at}
-use Rattle.pg_machine.specs.State.{Views, AreViews, coh_of, maxcoh, greatest, ordered}
-use Rattle.pg_machine.specs.Moves.{Seen, can_read, loaded, load_seen, mfence_seen, fenced, missed}
-use Rattle.pg_machine.proofs.PositionLists.{greatest-above, greatest-raised, greatest_on-within}
-use Rattle.pg_machine.proofs.Reached.{least, Reaches, reaches_of, last-within, within-last, last-alone, same_truth}
+use Rattle.std.proofs.Common.{◌≡◌, ℕ, ◌<◌, ◌==◌, max, true, length, sym, ap, ◌∙◌, arith}
+use Rattle.std.proofs.lemmas.Bool.{and_from, le-leb, leb-true}
+use Rattle.pg_machine.specs.Memory.{last, value_at}
+use Rattle.pg_machine.specs.State.{AreViews, coh_of, maxcoh}
+use Rattle.pg_machine.specs.Moves.{Seen, can_read, loaded, fenced, missed}
+use Rattle.pg_machine.proofs.PositionLists.{greatest-raised}
+use Rattle.pg_machine.proofs.Reached.{Reaches, reaches_of, within-last, last-alone}
 use Rattle.pg_machine.proofs.Scan.{is_at-within}
-use Rattle.pg_machine.proofs.ViewLaws.{coh-at}
 use Rattle.pg_machine.proofs.ViewsKept.{mfence_views}
 use Rattle.pg_views.specs.Atom.{is_last, may_read, may_read_then, reads_newest, covers_ordered, covers_fenced}
 use Rattle.pg_views.specs.Laws.{IsRaised}

@@ -1,8 +1,8 @@
 -- The rows of a cas are true where it fails: of the thread that acts they say what an `mfence`, a load and an `mfence` leave, and all
 -- else stays.
-use Rattle.std.proofs.Common.{◌≡◌, ◌≢◌, ℕ, ◌<◌, ◌≤◌, ◌==◌, Bool, true, false, ◌&&◌, ◌||◌, List, [], ◌∷◌, ◌++◌, length, get_or, set, Option, Some, refl, sym, ap, subst, ◌∙◌, arith}
+use Rattle.std.proofs.Common.{◌≡◌, ◌≢◌, ℕ, ◌<◌, ◌≤◌, ◌==◌, Bool, true, false, ◌&&◌, ◌||◌, [], ◌∷◌, ◌++◌, length, get_or, set, Option, Some, refl, sym, ap, subst, ◌∙◌}
 use Rattle.std.proofs.lemmas.Bool.{eqb-true, eqb-false}
-use Rattle.std.proofs.lemmas.List.{get_or-set_same, get_or-set_other}
+use Rattle.std.proofs.lemmas.List.{get_or-set_other}
 use Rattle.pg_program.specs.declared.syntax.Act.{Act}
 use Rattle.pg_program.specs.declared.syntax.Act.TheOpen.{Act-F}
 use Rattle.pg_program.specs.declared.syntax.Stmt.{Stmt}
@@ -17,7 +17,6 @@ use Rattle.pg_machine.specs.Moves.{Seen, can_read, fenced, missed}
 use Rattle.pg_machine.specs.Step.{seen_by, views_of}
 use Rattle.pg_views.specs.Atom.{is_last, may_read, may_read_then, reads_newest, covers_ordered, covers_fenced}
 use Rattle.pg_views.specs.Valuation.{is_some, expected_value, is_success, step_atom_holds}
-use Rattle.pg_tables.specs.declared.clause.StepLiteral.{StepLiteral}
 use Rattle.pg_tables.specs.Clause.{implies}
 use Rattle.pg_tables.specs.Shapes.{before, after, only_where, always, becomes, becomes_both}
 use Rattle.pg_tables.specs.Truth.{AllTrue}

@@ -1,7 +1,7 @@
 -- A table of rows is true where the row of each atom is. What a step leaves of the scalars that its bracket does not assign.
 use Rattle.std.proofs.Common.{◌≡◌, ◌≢◌, ℕ, ◌<◌, ◌==◌, Bool, true, false, cond, not, ◌||◌, ◌&&◌, List, [], ◌∷◌, map, get_or, set, refl, sym, ap, ◌∙◌, arith}
 use Rattle.std.specs.List.{list_all}
-use Rattle.std.proofs.lemmas.Bool.{or_parts, eqb-false}
+use Rattle.std.proofs.lemmas.Bool.{or_left, or_right, or_parts, eqb-false}
 use Rattle.std.proofs.lemmas.List.{get_or-set_other}
 use Rattle.pg_program.specs.declared.syntax.AuxAssign.{AuxAssign}
 use Rattle.pg_program.specs.declared.syntax.Stmt.{Stmt}
@@ -17,13 +17,21 @@ use Rattle.pg_machine.specs.declared.event.Event.{Event}
 use Rattle.pg_machine.specs.State.{State}
 use Rattle.pg_machine.specs.Step.{Left, assigned, bracket_of}
 use Rattle.pg_tables.specs.declared.clause.StepLiteral.{StepLiteral}
+use Rattle.pg_tables.specs.Clause.{implies}
 use Rattle.pg_tables.specs.Table.{IsOneOf}
 use Rattle.pg_tables.specs.Truth.{AllTrue, clause_true, literal_true}
-use Rattle.pg_tables.proofs.Truth.{all-append, all-when, all-threads, all-locations, all-values, all-scalars}
+use Rattle.pg_tables.proofs.Truth.{by_truth, AllOf, all-append, all-when, all-threads, all-locations, all-values, all-scalars}
 use Rattle.pg_rules_access.specs.Atoms.{scalar_rows, access_rows}
 use Rattle.pg_soundness.proofs.Stepped.{Stepped}
 
--- ---- tables of rows
+-- ---- clauses and tables of rows
+
+-- the clause `ls => a`
+pub gives : (val : StepAtom → Bool) (ls : List StepAtom) (a : StepAtom) → (AllOf val ls → val a ≡ true) → clause_true val (implies ls (a ∷ [])) ≡ true
+gives val [] a h = or_left (val a) false (h tt)
+gives val (b ∷ ls) a h = by_truth (val b)
+    (λ is. or_right (not (val b)) (clause_true val (implies ls (a ∷ []))) (gives val ls a (λ t. h (is, t))))
+    (λ is. or_left (not (val b)) (clause_true val (implies ls (a ∷ []))) (ap not is))
 
 -- the rows of the atoms that accesses of memory change are true
 pub record AreRows (val : StepAtom → Bool) (l : Sizes) (row : ViewAtom → List (List StepLiteral)) : Type 0 where

@@ -1,5 +1,5 @@
 -- The rows of a store are true of each step that stores.
-use Rattle.std.proofs.Common.{◌≡◌, ◌≢◌, ℕ, ◌<◌, ◌≤◌, ◌==◌, Bool, true, false, ◌&&◌, ◌||◌, List, [], length, map, get_or, Option, Some, None, refl, sym, ap, subst, ◌∙◌, arith}
+use Rattle.std.proofs.Common.{◌≡◌, ◌≢◌, ℕ, ◌<◌, ◌==◌, Bool, true, false, ◌&&◌, List, [], length, map, get_or, Option, Some, None, refl, sym, ap, subst, ◌∙◌, arith}
 use Rattle.std.specs.List.{All}
 use Rattle.std.proofs.lemmas.Bool.{eqb-true, eqb-false}
 use Rattle.std.proofs.lemmas.List.Elements.{All-head}
@@ -15,7 +15,7 @@ use Rattle.pg_program.specs.Words.{is_in, locations_in}
 use Rattle.pg_assertion.specs.declared.atom.ViewAtom.TheVariants.{Scalar, Read, Then, Newest, Ordered, Fenced}
 use Rattle.pg_assertion.specs.declared.step_atom.StepAtom.{StepAtom}
 use Rattle.pg_assertion.specs.declared.step_atom.StepAtom.TheVariants.{Value}
-use Rattle.pg_assertion.specs.Layout.{Sizes, sizes, IsThreadNumber}
+use Rattle.pg_assertion.specs.Layout.{Sizes, sizes}
 use Rattle.pg_machine.specs.declared.event.Event.{Event}
 use Rattle.pg_machine.specs.Memory.{line_of}
 use Rattle.pg_machine.specs.State.{State, AreViews}

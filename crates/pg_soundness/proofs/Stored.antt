@@ -1,9 +1,9 @@
 -- What a store leaves to the thread that acts: its coherence view of the location is the new message.
-use Rattle.std.proofs.Common.{◌≡◌, ◌≢◌, ℕ, suc, ◌+◌, ◌<◌, ◌≤◌, ◌==◌, max, nat_le, Bool, true, false, cond, ◌&&◌, ◌||◌, List, length, get_or, set, inl, inr, refl, sym, ap, ap₂, ◌∙◌, arith}
+use Rattle.std.proofs.Common.{◌≡◌, ◌≢◌, ℕ, suc, ◌+◌, ◌<◌, ◌≤◌, ◌==◌, max, nat_le, Bool, true, cond, ◌&&◌, ◌||◌, List, length, get_or, set, inl, inr, sym, ap, ap₂, ◌∙◌, arith}
 use Rattle.std.proofs.lemmas.Bool.{and_parts, and_from, le-leb, cases_eq}
 use Rattle.std.proofs.lemmas.List.{length-set, get_or-set_same, get_or-set_other}
-use Rattle.pg_machine.specs.Memory.{line_of, is_at, last_upto, last, value_at}
-use Rattle.pg_machine.specs.State.{AreViews, coh_of, maxcoh, greatest_on, ordered}
+use Rattle.pg_machine.specs.Memory.{line_of, last, value_at}
+use Rattle.pg_machine.specs.State.{AreViews, coh_of, maxcoh, ordered}
 use Rattle.pg_machine.specs.Moves.{Seen, can_read, loaded, load_seen, stored}
 use Rattle.pg_machine.proofs.Appended.{length-appended, last_upto-front, last_upto-within}
 use Rattle.pg_machine.proofs.PositionLists.{greatest_on-above, greatest_on-other}

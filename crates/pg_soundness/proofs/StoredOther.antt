@@ -1,8 +1,8 @@
 -- What a store leaves to another thread: its views stay, and the memory has one message more.
-use Rattle.std.proofs.Common.{◌≡◌, ◌≢◌, ℕ, suc, ◌+◌, ◌<◌, ◌≤◌, ◌==◌, max, nat_le, Bool, true, false, cond, ◌&&◌, ◌||◌, length, refl, sym, ap, ap₂, ◌∙◌, arith}
+use Rattle.std.proofs.Common.{◌≡◌, ◌≢◌, ℕ, suc, ◌<◌, ◌≤◌, ◌==◌, max, nat_le, Bool, true, false, cond, ◌&&◌, ◌||◌, length, sym, ap, ap₂, ◌∙◌, arith}
 use Rattle.std.proofs.lemmas.Bool.{and_parts, ne_eqb, lt-leb}
-use Rattle.pg_machine.specs.Memory.{Memory, line_of, is_at, last_upto, last, message_appended, value_at}
-use Rattle.pg_machine.specs.State.{Views, AreViews, coh_of, maxcoh, ordered}
+use Rattle.pg_machine.specs.Memory.{line_of, is_at, last, message_appended, value_at}
+use Rattle.pg_machine.specs.State.{AreViews, coh_of, maxcoh, ordered}
 use Rattle.pg_machine.specs.Moves.{Seen, can_read, loaded, load_seen}
 use Rattle.pg_machine.proofs.Appended.{same_number, is_to-new, length-appended, last_upto-front, last_upto-within}
 use Rattle.pg_machine.proofs.PositionLists.{greatest_on-within}

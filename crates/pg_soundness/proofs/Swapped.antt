@@ -1,10 +1,10 @@
 -- What a successful cas leaves to the thread that acts: as after a store and an `mfence`, all views are the new message, and so the
 -- last position of each location is the one that may be read.
-use Rattle.std.proofs.Common.{◌≡◌, ℕ, suc, ◌+◌, ◌<◌, ◌≤◌, Bool, true, ◌&&◌, length, sym, ap, subst, ◌∙◌, arith}
+use Rattle.std.proofs.Common.{◌≡◌, ℕ, ◌<◌, ◌≤◌, Bool, true, ◌&&◌, length, sym, ap, subst, ◌∙◌, arith}
 use Rattle.std.proofs.lemmas.Bool.{le-leb}
-use Rattle.pg_machine.specs.Memory.{line_of, last, last_value}
+use Rattle.pg_machine.specs.Memory.{line_of, last}
 use Rattle.pg_machine.specs.State.{AreViews, coh_of, maxcoh, ordered}
-use Rattle.pg_machine.specs.Moves.{Seen, stored, fenced, swapped}
+use Rattle.pg_machine.specs.Moves.{Seen, stored, swapped}
 use Rattle.pg_machine.proofs.Appended.{length-appended, last_upto-within}
 use Rattle.pg_machine.proofs.Reached.{least, within-last}
 use Rattle.pg_machine.proofs.ViewLaws.{coh-at}

@@ -1,6 +1,6 @@
 -- The rows of a cas are true where it succeeds: of the thread that acts they say what a store and then an `mfence` leave, and of all
 -- others what a store leaves.
-use Rattle.std.proofs.Common.{◌≡◌, ◌≢◌, ℕ, ◌<◌, ◌≤◌, ◌==◌, Bool, true, false, ◌&&◌, ◌||◌, List, [], ◌∷◌, ◌++◌, length, get_or, set, Option, Some, refl, sym, ap, ap₂, subst, ◌∙◌, arith}
+use Rattle.std.proofs.Common.{◌≡◌, ◌≢◌, ℕ, ◌<◌, ◌==◌, Bool, true, false, ◌&&◌, ◌||◌, List, [], ◌∷◌, ◌++◌, length, get_or, set, Option, Some, refl, sym, ap, ap₂, subst, ◌∙◌, arith}
 use Rattle.std.proofs.lemmas.Bool.{eqb-true, eqb-false, ne_eqb, and_parts, or_parts}
 use Rattle.std.proofs.lemmas.List.{get_or-set_same, get_or-set_other}
 use Rattle.pg_program.specs.declared.syntax.Act.{Act}
@@ -18,11 +18,11 @@ use Rattle.pg_views.specs.Atom.{is_last, may_read, may_read_then, reads_newest, 
 use Rattle.pg_views.specs.Valuation.{is_some, expected_value, is_success, step_atom_holds}
 use Rattle.pg_tables.specs.declared.clause.StepLiteral.{StepLiteral}
 use Rattle.pg_tables.specs.Clause.{implies}
-use Rattle.pg_tables.specs.Shapes.{before, after, only_where, frame, always, becomes, becomes_both}
+use Rattle.pg_tables.specs.Shapes.{before, after, only_where, always, becomes, becomes_both}
 use Rattle.pg_tables.specs.Steps.{same_line}
 use Rattle.pg_tables.specs.Truth.{AllTrue}
 use Rattle.pg_tables.proofs.Truth.{all-always, all-becomes, all-becomes_both}
-use Rattle.pg_rules_access.specs.Store.{store, store_last, store_read, store_then, store_newest, store_ordered, store_fenced}
+use Rattle.pg_rules_access.specs.Store.{store_last, store_read, store_then, store_newest, store_ordered, store_fenced}
 use Rattle.pg_rules_access.specs.Load.{read_then}
 use Rattle.pg_rules_access.specs.Cas.{cas, cas_scalar, cas_read, own_read, cas_then, own_then, cas_view, cas_fenced, own_fenced, if_stored}
 use Rattle.pg_soundness.proofs.CasShapes.{succeeded, stored_if}

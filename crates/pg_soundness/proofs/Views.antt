@@ -95,9 +95,9 @@ module _ (n : Seen) (x p : ℕ) (h : AreViews n.memory n.views) (lined : length 
       ⊎ (greatest_on n.memory.lines (set n.views.coh x q) l ≡ greatest_on n.memory.lines n.views.coh l)
   raised-on l q le = elim (cases_eq (line_of n.memory x) l) [
     | inl on ↦ inl (
-        greatest_on-raised n.memory.lines n.views.coh l x q (omega (arith, lined, inside)) here on le,
-        greatest_on-above n.memory.lines n.views.coh l x (omega (arith, lined, inside)) on,
-      )
+      greatest_on-raised n.memory.lines n.views.coh l x q (omega (arith, lined, inside)) here on le,
+      greatest_on-above n.memory.lines n.views.coh l x (omega (arith, lined, inside)) on,
+    )
     | inr off ↦ inr (greatest_on-other n.memory.lines n.views.coh l x q off)
   ]
 

@@ -1,6 +1,6 @@
 -- The rows of a store that speak of last values and of the other threads are true where a thread writes to a location, by a store or
 -- by a cas that succeeds.
-use Rattle.std.proofs.Common.{◌≡◌, ◌≢◌, ℕ, ◌<◌, ◌≤◌, ◌==◌, Bool, true, false, not, ◌&&◌, ◌||◌, List, [], ◌∷◌, length, Option, Some, refl, sym, ap, subst, ◌∙◌, arith}
+use Rattle.std.proofs.Common.{◌≡◌, ◌≢◌, ℕ, ◌<◌, ◌≤◌, ◌==◌, Bool, true, false, not, ◌&&◌, ◌||◌, List, length, Option, Some, refl, sym, ap, subst, ◌∙◌, arith}
 use Rattle.std.proofs.lemmas.Bool.{eqb-true, eqb-false}
 use Rattle.pg_program.specs.declared.syntax.Act.{Act}
 use Rattle.pg_program.specs.declared.syntax.Act.TheOpen.{Act-F}
@@ -19,7 +19,7 @@ use Rattle.pg_tables.specs.declared.clause.StepLiteral.{StepLiteral}
 use Rattle.pg_tables.specs.Shapes.{before, after}
 use Rattle.pg_tables.specs.Truth.{AllTrue}
 use Rattle.pg_tables.proofs.Truth.{all-never, all-becomes, all-gains, all-gains_both}
-use Rattle.pg_rules_access.specs.Store.{store_last, store_read, store_then, store_twice, twice, store_newest, store_ordered, store_fenced}
+use Rattle.pg_rules_access.specs.Store.{store_last, store_read, store_then, store_newest, store_ordered, store_fenced}
 use Rattle.pg_soundness.proofs.Longer.{is_last-here, is_last-there}
 use Rattle.pg_soundness.proofs.StoredOther as law
 use Rattle.pg_soundness.proofs.StoredOther.{longer}

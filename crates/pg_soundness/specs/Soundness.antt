@@ -1,6 +1,7 @@
 -- Soundness of the rules: each clause is true of every step that the machine takes.
-use Rattle.std.specs.Prelude.{List}
+use Rattle.std.specs.Prelude.{◌≤◌, List, length}
 use Rattle.pg_program.specs.declared.point.Step.{Step}
+use Rattle.pg_program.specs.Limits.{most_scalars}
 use Rattle.pg_program.specs.Program.{ProgramTable, IsProgram}
 use Rattle.pg_machine.specs.declared.event.Event.{Event}
 use Rattle.pg_machine.specs.State.{State, IsWellFormed}
@@ -11,14 +12,15 @@ use Rattle.pg_tables.specs.Truth.{AllTrue}
 use Rattle.pg_rules_access.specs.Access.{access}
 use Rattle.pg_rules_persist.specs.Persist.{persist}
 
--- The rules that a step of a program has are true of each step of the machine through it, from every well-formed state.
-abbrev pub AreTrueOfSteps : (ProgramTable → Step → List (List StepLiteral)) → Type 0
-AreTrueOfSteps rules =
-    (p : ProgramTable) (s : State) (e : Event) (step : Step) (next : State)
-    → IsProgram p → IsWellFormed p s → IsStepThrough p s e step next → AllTrue (valuation p e s next) (rules p step)
+-- These rules of each step are true of each step of the machine through it, from every well-formed state of the program.
+abbrev pub AreTrueOfSteps : ProgramTable → (Step → List (List StepLiteral)) → Type 0
+AreTrueOfSteps p rules =
+    (s : State) (e : Event) (step : Step) (next : State)
+    → IsProgram p → IsWellFormed p s → IsStepThrough p s e step next → AllTrue (valuation p e s next) (rules step)
 
+-- So are the access rules, where no more scalars are declared than the limits of names allow: their clauses speak of no others.
 abbrev pub AccessRulesAreTrue : Type 0
-AccessRulesAreTrue = AreTrueOfSteps access
+AccessRulesAreTrue = (p : ProgramTable) → length p.names.scalars ≤ most_scalars → AreTrueOfSteps p (access p)
 
 abbrev pub PersistRulesAreTrue : Type 0
-PersistRulesAreTrue = AreTrueOfSteps persist
+PersistRulesAreTrue = (p : ProgramTable) → AreTrueOfSteps p (persist p)

@@ -3,3 +3,7 @@
 //! What this crate promises the layers above: each clause of the access rules and of the persistency rules of a step is true of every
 //! step of the machine through it, from every well-formed state. It has no code of its own, but laws.
 #![tactic(auto)]
+
+mod laws;
+
+pub use laws::access_rules_are_true;
