@@ -35,9 +35,6 @@ module _ (n : Seen) (x p : ℕ) (h : AreViews n.memory n.views) (inside : x < le
   read-views : AreViews n.memory read.views
   read-views = loaded-views ahead ahead-views x p inside can
 
-  pub missed-views : AreViews n.memory now.views
-  missed-views = mfence_views n.memory read.views read-views
-
   ahead-raised : IsRaised n.views ahead.views
   ahead-raised = fence-raised n.memory n.views h
 
