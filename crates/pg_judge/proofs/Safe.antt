@@ -25,7 +25,7 @@ use Rattle.pg_judge.specs.declared.obligation.PathKind.{PathKind}
 use Rattle.pg_judge.specs.declared.obligation.PathKind.TheVariants.{Fresh, Entry, EntryCrash, Local, Crash}
 use Rattle.pg_judge.specs.Path.{Path, IsPath, IsLit, IsValuation, Considers, AllFollow, meets_all, given, after, goal, note, store, after_store, kind}
 use Rattle.pg_judge.specs.Form.{formula_of}
-use Rattle.pg_judge.specs.Meaning.{IsSafeIn, IsSafe}
+use Rattle.pg_obligations.specs.Safe.{IsSafeIn, IsSafe}
 use Rattle.pg_judge.proofs.LastValues.{last_values, length-last_values, last_values-below, last_values-appended, last_values-fresh, last_value-below, last_value-stays_below, holds-meets}
 
 -- the outline is of the form, and these are its parts

@@ -7,7 +7,7 @@ use Rattle.pg_program.specs.Program.{IsProgram}
 use Rattle.pg_views.specs.State.{fresh}
 use Rattle.pg_views.specs.Execution.{IsStart}
 use Rattle.pg_outline.specs.Outline.{OutlineTable}
-use Rattle.pg_judge.specs.Meaning.{IsSafe}
+use Rattle.pg_obligations.specs.Safe.{IsSafe}
 
 -- accepted with the number of obligations, where each follows; rejected with the first that does not
 abbrev pub Judges : Path → PathJudgement → Type 0

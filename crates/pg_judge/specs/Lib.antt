@@ -3,5 +3,4 @@ pub mod Judgement
 pub mod Obligation
 pub mod Path
 pub mod Form
-pub mod Meaning
 pub mod Reading
