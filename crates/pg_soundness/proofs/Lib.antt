@@ -24,3 +24,8 @@ pub mod SwappedRows
 pub mod MissedRows
 pub mod CasRows
 pub mod AccessTrue
+pub mod PersistShown
+pub mod PersistBounds
+pub mod PersistRows
+pub mod PersistFlush
+pub mod PersistTrue

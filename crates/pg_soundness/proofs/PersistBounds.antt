@@ -11,6 +11,13 @@ use Rattle.pg_machine.specs.Step.{IsStep, views_of}
 use Rattle.pg_machine.proofs.Moved.{step-own, step-other, step-commits}
 use Rattle.pg_machine.proofs.PositionLists.{greater-at, greater-length, line-within}
 use Rattle.pg_views.specs.Atom.{is_shown, committed_to, committed_next, atom_holds}
+use Rattle.std.proofs.Common.{◌≡◌, ℕ, ◌<◌, ◌≤◌, max, List, length, get_or, sym, ap, ◌∙◌, arith}
+use Rattle.pg_program.specs.declared.point.Step.{Step}
+use Rattle.pg_program.specs.declared.syntax.Stmt.{Stmt}
+use Rattle.pg_program.specs.Program.{ProgramTable}
+use Rattle.pg_machine.specs.State.{Views, State, AreViews, maxcoh, ordered, vpa_of, vpc_of, committed}
+use Rattle.pg_machine.specs.Step.{Left, views_of}
+use Rattle.pg_soundness.proofs.Stepped.{Stepped}
 
 -- what a step of thread t leaves, where its act leaves it to see n
 pub record LeavesSeen (s next : State) (t : ℕ) (n : Seen) : Type 0 where
@@ -20,6 +27,19 @@ pub record LeavesSeen (s next : State) (t : ℕ) (n : Seen) : Type 0 where
   pub own : views_of next t ≡ n.views
   pub others : (u : ℕ) → 1 ≤ u → (u ≡ t → ⊥) → views_of next u ≡ views_of s u
   pub was_committed : (l : ℕ) → vpc_of (views_of s t) l ≤ committed s l
+  pub commits : (l : ℕ) → committed next l ≡ max (committed s l) (vpc_of n.views l)
+  pub was : (l : ℕ) → vpc_of (views_of s t) l ≤ committed s l
+
+pub leaves-seen : (p : ProgramTable) (s : State) (e : Event) (step : Step) (next : State) (stmt : Stmt) (left : Left) (n : Seen) → Stepped p s e step next stmt left → left.seen ≡ n
+    → LeavesSeen s next e.thread n
+leaves-seen p s e step next stmt left n h is = record {
+  memory = h.memory ∙ ap (λ (k : Seen). k.memory) is;
+  lines = sym (ap (λ (k : Seen). k.memory.lines) is) ∙ (h.on_lines_left ∙ sym h.on_lines);
+  commits = λ l. h.commits l ∙ ap (λ (k : Seen). max (committed s l) (vpc_of k.views l)) is;
+  own = ap (λ (k : Seen). k.views) (h.own ∙ is);
+  others = λ u low other. ap (λ (k : Seen). k.views) (h.other u low other);
+  was = λ l. let c = h.committed_before l in omega (arith, c);
+}
 
 -- ---- atoms by their bounds
 
@@ -29,6 +49,7 @@ module _ (s next : State) (t : ℕ) (n : Seen) (h : LeavesSeen s next t n) where
 
   committed-is : (z : ℕ) → committed_to next z ≡ max (committed_to s z) (vpc_of n.views (line_of s.memory z))
   committed-is z = ap (committed next) (line z) ∙ h.committed (line_of s.memory z)
+  committed-is z = ap (committed next) (line z) ∙ h.commits (line_of s.memory z)
 
   pub persist-upto : (z v b : ℕ) → max (committed_to s z) (vpc_of n.views (line_of s.memory z)) ≡ b → atom_holds next (Persist z v) ≡ is_shown n.memory z 0 b v
   persist-upto z v b e = ap (λ (m : Memory). is_shown m z 0 (committed_to next z) v) h.memory ∙ ap (λ (k : ℕ). is_shown n.memory z 0 k v) (committed-is z ∙ e)
@@ -59,6 +80,9 @@ module _ (s next : State) (t : ℕ) (n : Seen) (h : LeavesSeen s next t n) where
 
     pub kept-other : (u : ℕ) → 1 ≤ u → (u ≡ t → ⊥) → atom_holds next (Async u z v) ≡ is_shown n.memory z 0 (committed_next s u z) v
     kept-other u low other = let was = h.was_committed (line_of s.memory z) in other-upto u z v (committed_next s u z) low other (omega (arith, was, kept))
+    kept-persist = let was = h.was (line_of s.memory z) in persist-upto z v (committed_to s z) (omega (arith, was, kept))
+    kept-own e = let was = h.was (line_of s.memory z) in own-upto z v (committed_next s t z) (omega (arith, was, kept, e))
+    kept-other u low other = let was = h.was (line_of s.memory z) in other-upto u z v (committed_next s u z) low other (omega (arith, was, kept))
 
   -- where what the thread has begun to write back is committed
   module _ (z v : ℕ) (back : vpc_of n.views (line_of s.memory z) ≡ max (vpc_of (views_of s t) (line_of s.memory z)) (vpa_of (views_of s t) (line_of s.memory z))) where
@@ -71,6 +95,9 @@ module _ (s next : State) (t : ℕ) (n : Seen) (h : LeavesSeen s next t n) where
     pub back-other : (u : ℕ) → 1 ≤ u → (u ≡ t → ⊥) → atom_holds next (Async u z v) ≡ is_shown n.memory z 0 (max (committed_next s u z) (committed_next s t z)) v
     back-other u low other =
         let was = h.was_committed (line_of s.memory z) in
+    back-persist = let was = h.was (line_of s.memory z) in persist-upto z v (committed_next s t z) (omega (arith, was, back))
+    back-own e = let was = h.was (line_of s.memory z) in own-upto z v (committed_next s t z) (omega (arith, was, back, e))
+        let was = h.was (line_of s.memory z) in
         other-upto u z v (max (committed_next s u z) (committed_next s t z)) low other (omega (arith, was, back))
 
 -- ---- what acts write back

@@ -6,6 +6,11 @@ use Rattle.pg_machine.specs.Memory.{Memory, is_at, reaches, last, last_value, va
 use Rattle.pg_machine.proofs.Appended.{length-appended, value_at-front, value_at-new}
 use Rattle.pg_machine.proofs.Reached.{reaches_of, reaches-less, reaches-within, reaches-front, reaches-new, reaches-other, last_upto-above, last_upto-grows, last-alone, within-last, same_truth}
 use Rattle.pg_views.specs.Atom.{some_below, shows, is_shown, is_last}
+-- What is shown of a location: less up to a later position, and up to the greater of two positions what is shown up to both.
+use Rattle.std.proofs.Common.{◌≡◌, ℕ, ◌≤◌, ◌==◌, max, true, ◌&&◌, inl, inr, sym, ap, ◌∙◌, arith}
+use Rattle.pg_machine.specs.Memory.{Memory, is_at, last, value_at}
+use Rattle.pg_machine.proofs.Reached.{reaches-less, reaches-within, last_upto-above, last_upto-grows, last-alone, within-last, same_truth}
+use Rattle.pg_views.specs.Atom.{is_shown, is_last}
 use Rattle.pg_views.proofs.Axioms.{shown_where}
 use Rattle.pg_views.proofs.Nested.{shown-within}
 
@@ -72,3 +77,5 @@ pub shown-elsewhere : (m : Memory) (st : ℕ × ℕ) (x c n v : ℕ) → (st.0 �
 shown-elsewhere m st x c n v other upto =
     split-new m st x c n v upto
     ∙ ap (λ (a : Bool). (a && (value_at (message_appended m st) x (suc (length m.messages)) == v)) || is_shown m x c n v) (reaches-other m.messages st x c n other)
+pub shown-covered : (m : Memory) (x n v : ℕ) → last m.messages x ≤ n → is_shown m x 0 n v ≡ true → is_last m x v ≡ true
+shown-covered m x n v covered h =

@@ -7,3 +7,5 @@
 mod laws;
 
 pub use laws::access_rules_are_true;
+mod persist;
+pub use persist::persist_rules_are_true;
