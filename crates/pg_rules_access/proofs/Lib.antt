@@ -1,3 +1,9 @@
 pub mod TupleLists
 pub mod StmtOver
 pub mod Acts
+pub mod Special
+pub mod Targets
+pub mod RowsFew
+pub mod TuplesFew
+pub mod AccessFew
+pub mod StepFew

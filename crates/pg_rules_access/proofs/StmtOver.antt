@@ -1,7 +1,7 @@
 -- A statement of a program is over its names, and none of its expressions reads many.
-use Rattle.std.proofs.Common.{◌≡◌, ℕ, zero, suc, ◌+◌, ◌-◌, ◌<◌, ◌≤◌, ◌==◌, Bool, true, false, cond, ◌||◌, List, [], ◌∷◌, ◌++◌, length, map, get_or, Option, Some, None, slice_get, refl, sym, ap, ◌∙◌, subst, arith}
+use Rattle.std.proofs.Common.{◌≡◌, ℕ, zero, suc, ◌+◌, ◌-◌, ◌<◌, ◌≤◌, ◌==◌, Bool, true, false, cond, ◌||◌, List, [], ◌∷◌, ◌++◌, length, map, get_or, Option, Some, None, option_map, slice_get, find, refl, sym, ap, ◌∙◌, subst, arith}
 use Rattle.std.specs.List.{All, filter, list_any, range_with_len}
-use Rattle.std.proofs.lemmas.Bool.{eqb-true, ltb-false}
+use Rattle.std.proofs.lemmas.Bool.{eqb-true, ltb-false, true≢false}
 use Rattle.std.proofs.lemmas.List.Elements.{All-nil, All-cons, All-head, All-tail}
 use Rattle.pg_assertion.specs.Layout.{Sizes, sizes}
 use Rattle.pg_program.specs.declared.syntax.AuxAssign.{AuxAssign}
@@ -12,8 +12,9 @@ use Rattle.pg_program.specs.declared.point.PointId.{PointId}
 use Rattle.pg_program.specs.Block.{block}
 use Rattle.pg_program.specs.Graph.{statements}
 use Rattle.pg_program.specs.Expr.{reads}
-use Rattle.pg_program.specs.Fault.{Fault, few_names, expression_names, in_thread, in_threads}
-use Rattle.pg_program.specs.Words.{is_in, different, is_wide, groups, groups_in, outside_in, locations_in, bracket_scalars}
+use Rattle.pg_program.specs.NameTable.{is_auxiliary}
+use Rattle.pg_program.specs.Fault.{Fault, no_auxiliaries, distinct_targets, few_names, expression_names, in_thread, in_threads}
+use Rattle.pg_program.specs.Words.{is_in, different, repeated, is_wide, groups, groups_in, outside, outside_in, locations_in, bracket_scalars, targets}
 use Rattle.pg_program.specs.Program.{ProgramTable, IsProgram, thread_of, stmt_at}
 use Rattle.pg_program.proofs.ProgramLemmas.{none_of, faultless, stmt_of}
 use Rattle.pg_rules_access.specs.Values.{AreScalars, AreFew, AreAssigns}
@@ -117,6 +118,12 @@ at_stmt C t k (u ∷ ss) (suc i) s h at =
     ap (λ (n : ℕ). C (record { thread = t; point = n }) s) (let q : k + suc i ≡ k + 1 + i = omega arith in q)
     ∙ at_stmt C t (k + 1) ss i s (none_of (C (record { thread = t; point = k }) u) (in_thread C t (k + 1) ss) h).1 at
 
+-- a clause without a fault has none at a statement
+clause_of : (p : ProgramTable) (C : PointId → Stmt → Option Fault) (t k : ℕ) (s : Stmt) → 1 ≤ t → t ≤ length p.threads → stmt_at p t k ≡ Some s → in_threads C 1 p.threads ≡ None
+    → C (record { thread = 1 + (t - 1); point = 1 + (k - 1) }) s ≡ None
+clause_of p C t k s low high at none =
+    at_stmt C (1 + (t - 1)) 1 (statements (block (thread_of p t))) (k - 1) s (at_thread C 1 p.threads (t - 1) none (omega arith)) at
+
 each_few : (l : Sizes) (gs : List (List ℕ)) → list_any is_wide gs ≡ false → All (AreFew l) gs
 each_few l [] h = All-nil (AreFew l)
 each_few l (g ∷ gs) h = by (each_few l gs) (is_wide g) refl h
@@ -131,9 +138,7 @@ not_wide false f h = refl
 
 groups_few : (p : ProgramTable) → IsProgram p → (l : Sizes) (t k : ℕ) (s : Stmt) → 1 ≤ t → t ≤ length p.threads → stmt_at p t k ≡ Some s → All (AreFew l) (groups s)
 groups_few p h l t k s low high at =
-    let C = few_names p.names in
-    let thread = at_thread C 1 p.threads (t - 1) (faultless p.names p.threads h.faultless).few (omega arith) in
-    let here = at_stmt C (1 + (t - 1)) 1 (statements (block (thread_of p t))) (k - 1) s thread at in
+    let here = clause_of p (few_names p.names) t k s low high at (faultless p.names p.threads h.faultless).few in
     each_few l (groups s) (not_wide (list_any is_wide (groups s)) (expression_names (record { thread = 1 + (t - 1); point = 1 + (k - 1) })) here)
 
 -- ---- a statement is over its names
@@ -204,3 +209,63 @@ stmt_over p h few t k s low high at =
     let names = both_of (λ r. r < length p.names.scalars) (outside_in act) (bracket_scalars (out-Stmt s).aux) is.scalars in
     let reads_few = both_of (AreFew l) (groups_in act) (map (λ a. reads a.expr) (out-Stmt s).aux) (groups_few p h l t k s low high at) in
     (act_over l few act names.0 is.locations reads_few.0, assigns_over l few (out-Stmt s).aux names.1 reads_few.1)
+
+-- ---- its bracket, and the scalar that a cas reads into
+
+-- the scalar that a cas reads into
+abbrev pub writes : Act-F Act Stmt → Option ℕ
+writes (Cas r x e d) = Some r
+writes _ = None
+
+none_mapped : {A B : Type 0} (f : A → B) (o : Option A) → option_map f o ≡ None → o ≡ None
+none_mapped f None h = refl
+none_mapped f (Some a) h = cc
+
+not_first : (p : ℕ → Bool) (r : ℕ) (rs : List ℕ) → find p (r ∷ rs) ≡ None → p r ≡ false
+not_first p r rs h = by (p r) h
+  where
+    by : (b : Bool) → cond b (Some r) (find p rs) ≡ None → b ≡ false
+    by true e = cc
+    by false e = refl
+
+is_in_none : (p : ℕ → Bool) (r : ℕ) (rs : List ℕ) → p r ≡ false → All (λ q. p q ≡ true) rs → is_in r rs ≡ false
+is_in_none p r [] h each = refl
+is_in_none p r (q ∷ rs) h each = by (q == r) refl (is_in_none p r rs h (All-tail (λ k. p k ≡ true) q rs each))
+  where
+    by : (b : Bool) → (q == r) ≡ b → is_in r rs ≡ false → (b || is_in r rs) ≡ false
+    by true e rest = absurd (true≢false (sym (All-head (λ k. p k ≡ true) q rs each) ∙ (ap p (eqb-true q r e) ∙ h)))
+    by false e rest = rest
+
+targets_of : (n : ℕ) (aux : List AuxAssign) → All (λ r. r < n) (bracket_scalars aux) → All (λ r. r < n) (map (λ a. a.target) aux)
+targets_of n [] h = All-nil (λ (r : ℕ). r < n)
+targets_of n (a ∷ rest) h =
+    let P : ℕ → Type 0 = λ r. r < n in
+    let parts = both_of P (reads a.expr) (bracket_scalars rest) (All-tail P a.target (reads a.expr ++ bracket_scalars rest) h) in
+    All-cons P a.target (map (λ b. b.target) rest) (All-head P a.target (reads a.expr ++ bracket_scalars rest) h) (targets_of n rest parts.1)
+
+module _ (p : ProgramTable) (is : IsProgram p) (t k : ℕ) (s : Stmt) (low : 1 ≤ t) (high : t ≤ length p.threads) (at : stmt_at p t k ≡ Some s) where
+  pub targets_inside : All (λ r. r < length p.names.scalars) (targets s)
+  targets_inside =
+      let names = both_of (λ r. r < length p.names.scalars) (outside s) (bracket_scalars (out-Stmt s).aux) (stmt_of p is t k s low high at).scalars in
+      targets_of (length p.names.scalars) (out-Stmt s).aux names.1
+
+  pub targets_differ : repeated [] (targets s) ≡ None
+  targets_differ = none_mapped _ (repeated [] (targets s)) (clause_of p (distinct_targets p.names) t k s low high at (faultless p.names p.threads is.faultless).apart)
+
+  pub target_is_free : (r : ℕ) → writes (out-Act (out-Stmt s).act) ≡ Some r → is_in r (targets s) ≡ false
+  target_is_free r h =
+      is_in_none (is_auxiliary p.names) r (targets s)
+      (by (out-Act (out-Stmt s).act) h (none_mapped _ (find (is_auxiliary p.names) (outside s)) (clause_of p (no_auxiliaries p.names) t k s low high at (faultless p.names p.threads is.faultless).bare)))
+      (stmt_of p is t k s low high at).targets
+    where
+      by : (act : Act-F Act Stmt) → writes act ≡ Some r → find (is_auxiliary p.names) (outside_in act) ≡ None → is_auxiliary p.names r ≡ false
+      by (Cas q x e d) h none = let same : q ≡ r = cc in not_first (is_auxiliary p.names) r (reads e ++ reads d) (subst (λ (j : ℕ). find (is_auxiliary p.names) (j ∷ (reads e ++ reads d)) ≡ None) same none)
+      by (Assign q e) h none = cc
+      by (Store x e) h none = cc
+      by (Load q x) h none = cc
+      by Mfence h none = cc
+      by Sfence h none = cc
+      by (Flush x) h none = cc
+      by (Flushopt x) h none = cc
+      by (If test a b) h none = cc
+      by (While test a) h none = cc

@@ -5,3 +5,4 @@ pub mod Load
 pub mod Fence
 pub mod Cas
 pub mod Access
+pub mod Bound
