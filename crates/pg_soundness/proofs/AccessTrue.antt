@@ -11,6 +11,7 @@ use Rattle.pg_program.specs.declared.syntax.Act.TheOpen.{Act-F, Assign, Store, L
 use Rattle.pg_program.specs.declared.point.Branch.{Branch}
 use Rattle.pg_program.specs.declared.point.Step.{Step}
 use Rattle.pg_program.specs.Expr.{reads, value}
+use Rattle.pg_program.specs.Limits.{most_scalars}
 use Rattle.pg_program.specs.Program.{ProgramTable, stmt_at}
 use Rattle.pg_program.specs.Words.{is_in, targets, outside_in, locations_in}
 use Rattle.pg_program.proofs.ExprLemmas.{All-front, All-behind}
@@ -87,7 +88,7 @@ record ActTrue (p : ProgramTable) (val : StepAtom → Bool) (t : ℕ) (branch : 
   scalars : (q k : ℕ) → is_in q (targets stmt) ≡ false → AllTrue val (act_row (sizes p.names (length p.threads)) p.names t act (Scalar q k))
   rows : AreRows val (sizes p.names (length p.threads)) (act_row (sizes p.names (length p.threads)) p.names t act)
 
-module _ (p : ProgramTable) (s : State) (e : Event) (step : Step) (next : State) (stmt : Stmt) (left : Left) (h : Stepped p s e step next stmt left) (few : length p.names.scalars ≤ 16) where
+module _ (p : ProgramTable) (s : State) (e : Event) (step : Step) (next : State) (stmt : Stmt) (left : Left) (h : Stepped p s e step next stmt left) (few : length p.names.scalars ≤ most_scalars) where
   abbrev l : Sizes
   l = sizes p.names (length p.threads)
 
@@ -136,7 +137,7 @@ module _ (p : ProgramTable) (s : State) (e : Event) (step : Step) (next : State)
       let f = frames_kept p s e step next stmt left h act e.choice (ap (λ (k : Left). k.seen.memory) leaves-it) (keeps-same n left.seen (ap (λ (k : Left). k.seen) leaves-it)) in
       record {
         values = true_value (val_of act) l s.scalars (are_before act) x Value (All-tail (λ (k : ℕ). k < l.scalars) q (reads x) (declared act is)) (λ v. refl);
-        scalars = true_assigned p s e step next stmt left h q x e.choice (ap (λ (k : Left). k.scalars) leaves-it) (All-head (λ (k : ℕ). k < length s.scalars) q (reads x) (over act is));
+        scalars = true_assigned p s e step next stmt left h q x e.choice (ap (λ (k : Left). k.scalars) leaves-it) (All-head (λ (k : ℕ). k < length s.scalars) q (reads x) (over act is)) (free act is q (or_left (q == q) (is_in q (reads x)) (eq-eqb q q refl)));
         rows = record { last = f.last; read = f.read; pairs = f.pairs; newest = f.newest; ordered = f.ordered; fenced = f.fenced };
       }
 

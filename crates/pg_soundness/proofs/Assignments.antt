@@ -15,6 +15,7 @@ use Rattle.pg_program.specs.Graph.{statements}
 use Rattle.pg_program.specs.Expr.{reads, value}
 use Rattle.pg_program.specs.Fault.{aux_in_program, aux_twice, no_auxiliaries, distinct_targets}
 use Rattle.pg_program.specs.NameTable.{NameTable, is_auxiliary, scalar_name}
+use Rattle.pg_program.specs.Limits.{most_scalars}
 use Rattle.pg_program.specs.Program.{ProgramTable, IsProgram, thread_of, stmt_at}
 use Rattle.pg_program.specs.Words.{is_in, repeated, targets, outside, outside_in, bracket_scalars}
 use Rattle.pg_program.proofs.ProgramLemmas.{faultless, stmt_of}
@@ -174,7 +175,7 @@ module _ (p : ProgramTable) (s : State) (e : Event) (step : Step) (next : State)
   pub unassigned : (q : ℕ) → is_in q (outside stmt) ≡ true → is_in q (targets stmt) ≡ false
   unassigned q here = no_target q (in-all (λ (r : ℕ). is_auxiliary p.names r ≡ false) (outside stmt) q has.bare here)
 
-module _ (p : ProgramTable) (s : State) (e : Event) (step : Step) (next : State) (stmt : Stmt) (left : Left) (h : Stepped p s e step next stmt left) (few : length p.names.scalars ≤ 16) where
+module _ (p : ProgramTable) (s : State) (e : Event) (step : Step) (next : State) (stmt : Stmt) (left : Left) (h : Stepped p s e step next stmt left) (few : length p.names.scalars ≤ most_scalars) where
   abbrev val : StepAtom → Bool
   val = step_atom_holds p.names.domain (act_of stmt) e.choice s next
 

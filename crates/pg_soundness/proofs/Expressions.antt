@@ -9,6 +9,7 @@ use Rattle.pg_program.specs.declared.syntax.Cond.{Cond}
 use Rattle.pg_program.specs.declared.point.Branch.{Branch}
 use Rattle.pg_program.specs.declared.point.Branch.TheVariants.{Yes, No}
 use Rattle.pg_program.specs.Expr.{reads, value, value_step, agrees, test_holds}
+use Rattle.pg_program.specs.Limits.{most_scalars}
 use Rattle.pg_program.proofs.ExprLemmas.{All-front, All-behind}
 use Rattle.pg_assertion.specs.declared.atom.ViewAtom.TheVariants.{Scalar, Last}
 use Rattle.pg_assertion.specs.declared.layout.Side.TheVariants.{Before}
@@ -40,10 +41,10 @@ value-below d r e some h =
 
 -- ---- expressions over the scalars before the step
 
--- Before the step the scalars have the values r, each in the domain, and no more than 16 of them are declared.
+-- Before the step the scalars have the values r, each in the domain, and no more of them are declared than there may be.
 pub record AreBefore (val : StepAtom → Bool) (l : Sizes) (r : List ℕ) : Type 0 where
   pub some : 0 < l.domain
-  pub few : l.scalars ≤ 16
+  pub few : l.scalars ≤ most_scalars
   pub inside : All (λ v. v < l.domain) r
   pub is : (q k : ℕ) → val (On (Scalar q k) Before) ≡ (get_or r q 0 == k)
 

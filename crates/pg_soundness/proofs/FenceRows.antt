@@ -1,5 +1,5 @@
 -- The rows of the fences are true.
-use Rattle.std.proofs.Common.{◌≡◌, ℕ, ◌≤◌, ◌==◌, Bool, true, length, Option, refl, sym, ap, subst, ◌∙◌}
+use Rattle.std.proofs.Common.{◌≡◌, ℕ, ◌≤◌, ◌==◌, Bool, true, length, Option, refl, sym, ap, ◌∙◌}
 use Rattle.pg_program.specs.declared.syntax.Stmt.{Stmt}
 use Rattle.pg_program.specs.declared.syntax.Act.{Act}
 use Rattle.pg_program.specs.declared.syntax.Act.TheOpen.{Act-F}
@@ -20,9 +20,9 @@ use Rattle.pg_tables.specs.Truth.{AllTrue}
 use Rattle.pg_tables.proofs.Truth.{all-only_where, all-becomes}
 use Rattle.pg_rules_access.specs.Fence.{fence_loses, fence_view, mfence, sfence}
 use Rattle.pg_soundness.proofs.Stepped.{Stepped}
-use Rattle.pg_soundness.proofs.Rows.{AreRows}
+use Rattle.pg_soundness.proofs.Rows.{AreRows, by_own}
 use Rattle.pg_soundness.proofs.Views.{fence-read, fence-then, fence-newest, fence-ordered, store_fence-ordered}
-use Rattle.pg_soundness.proofs.Kept.{by_same, framed, same_other, same_last, kept-at}
+use Rattle.pg_soundness.proofs.Kept.{framed, same_other, same_last, kept-at}
 
 module _ (p : ProgramTable) (s : State) (e : Event) (step : Step) (next : State) (stmt : Stmt) (left : Left) (h : Stepped p s e step next stmt left) (act : Act-F Act Stmt) (choice : Option ℕ) where
   abbrev val : StepAtom → Bool
@@ -42,17 +42,15 @@ module _ (p : ProgramTable) (s : State) (e : Event) (step : Step) (next : State)
     loses : (t : ℕ) → 1 ≤ t → (a : ℕ → ViewAtom) (f : Seen → Bool) → ((u : ℕ) (q : State) → atom_holds q (a u) ≡ f (seen_by q u))
         → (f left.seen ≡ true → f n ≡ true) → AllTrue val (fence_loses (t == e.thread) (a t))
     loses t from a f is less =
-        by_same t e.thread (λ b. AllTrue val (fence_loses b (a t)))
-        (λ mine. subst (λ (u : ℕ). AllTrue val (fence_loses true (a u))) (sym mine)
-        (all-only_where val (after (a e.thread)) (before (a e.thread)) (λ holds. is e.thread s ∙ less (ap f (sym h.own) ∙ (sym (is e.thread next) ∙ holds)))))
+        by_own val e.thread (λ b u. fence_loses b (a u)) t
+        (all-only_where val (after (a e.thread)) (before (a e.thread)) (λ holds. is e.thread s ∙ less (ap f (sym h.own) ∙ (sym (is e.thread next) ∙ holds))))
         (λ other. framed p s e step next stmt left h act choice (a t) (is t next ∙ (other-frame t from other f ∙ sym (is t s))))
 
     views : (t z : ℕ) → 1 ≤ t → (a : ℕ → ViewAtom) (f : Seen → Bool) → ((u : ℕ) (q : State) → atom_holds q (a u) ≡ f (seen_by q u))
         → f left.seen ≡ covers_fenced n z → AllTrue val (fence_view (t == e.thread) t z (a t))
     views t z from a f is covers =
-        by_same t e.thread (λ b. AllTrue val (fence_view b t z (a t)))
-        (λ mine. subst (λ (u : ℕ). AllTrue val (fence_view true u z (a u))) (sym mine)
-        (all-becomes val (after (a e.thread)) (before (Fenced e.thread z)) (is e.thread next ∙ (ap f h.own ∙ covers))))
+        by_own val e.thread (λ b u. fence_view b u z (a u)) t
+        (all-becomes val (after (a e.thread)) (before (Fenced e.thread z)) (is e.thread next ∙ (ap f h.own ∙ covers)))
         (λ other. framed p s e step next stmt left h act choice (a t) (is t next ∙ (other-frame t from other f ∙ sym (is t s))))
 
   pub mfence_rows : left.seen ≡ fenced n → AreRows val l (mfence e.thread)

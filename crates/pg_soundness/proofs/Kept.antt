@@ -1,7 +1,7 @@
 -- Steps that append no message: what other threads see stays as it was, and where the acting thread sees the same too, each atom of
 -- memory has its frame.
-use Rattle.std.proofs.Common.{◌≡◌, ◌≢◌, ℕ, ◌<◌, ◌≤◌, ◌==◌, Bool, true, false, List, length, get_or, set, Option, refl, sym, ap, inl, inr, ◌∙◌}
-use Rattle.std.proofs.lemmas.Bool.{cases_eq, eqb-true, eqb-false}
+use Rattle.std.proofs.Common.{◌≡◌, ◌≢◌, ℕ, ◌<◌, ◌≤◌, ◌==◌, Bool, false, List, length, get_or, set, Option, sym, ap, inl, inr, ◌∙◌}
+use Rattle.std.proofs.lemmas.Bool.{cases_eq}
 use Rattle.std.proofs.lemmas.List.{get_or-set_same, get_or-set_other}
 use Rattle.pg_program.specs.declared.syntax.Expr.{Expr}
 use Rattle.pg_program.specs.declared.syntax.Stmt.{Stmt}
@@ -28,15 +28,7 @@ use Rattle.pg_tables.specs.Truth.{AllTrue}
 use Rattle.pg_tables.proofs.Truth.{all-becomes}
 use Rattle.pg_rules_access.specs.Load.{assign_scalar}
 use Rattle.pg_soundness.proofs.Stepped.{Stepped}
-use Rattle.pg_soundness.proofs.Rows.{AreRows, scalar-after}
-
--- a row that asks whether two numbers are the same
-pub by_same : (t s : ℕ) (C : Bool → Type 0) → (t ≡ s → C true) → (t ≢ s → C false) → C (t == s)
-by_same t s C f g = by (t == s) refl
-  where
-    by : (b : Bool) → (t == s) ≡ b → C b
-    by true e = f (eqb-true t s e)
-    by false e = g (eqb-false t s e)
+use Rattle.pg_soundness.proofs.Rows.{AreRows, by_own, scalar-after}
 
 -- from m a thread may read what it may read from n, and the same is covered
 pub record Keeps (n m : Seen) : Type 0 where
@@ -100,13 +92,12 @@ module _ (p : ProgramTable) (s : State) (e : Event) (step : Step) (next : State)
   abbrev assign_val : StepAtom → Bool
   assign_val = step_atom_holds p.names.domain (Assign r x) choice s next
 
-  pub true_assigned : left.scalars ≡ set s.scalars r (value s.scalars p.names.domain x) → r < length s.scalars
+  pub true_assigned : left.scalars ≡ set s.scalars r (value s.scalars p.names.domain x) → r < length s.scalars → is_in r (targets stmt) ≡ false
       → (q k : ℕ) → is_in q (targets stmt) ≡ false → AllTrue assign_val (assign_scalar (q == r) q k)
-  true_assigned is inside q k free =
+  true_assigned is inside free q k out =
       let v = value s.scalars p.names.domain x in
-      by_same q r (λ b. AllTrue assign_val (assign_scalar b q k))
-      (λ here. all-becomes assign_val (after (Scalar q k)) (Value k)
-      (ap (λ (w : ℕ). w == k) (scalar-after p s e step next stmt left h q free ∙ (ap (λ (m : List ℕ). get_or m q 0) is
-      ∙ (ap (λ (j : ℕ). get_or (set s.scalars r v) j 0) here ∙ get_or-set_same s.scalars r v 0 inside)))))
-      (λ there. framed_scalar p s e step next stmt left h (Assign r x) choice q k free
+      by_own assign_val r (λ b i. assign_scalar b i k) q
+      (all-becomes assign_val (after (Scalar r k)) (Value k)
+      (ap (λ (w : ℕ). w == k) (scalar-after p s e step next stmt left h r free ∙ (ap (λ (m : List ℕ). get_or m r 0) is ∙ get_or-set_same s.scalars r v 0 inside))))
+      (λ there. framed_scalar p s e step next stmt left h (Assign r x) choice q k out
       (ap (λ (m : List ℕ). get_or m q 0) is ∙ get_or-set_other s.scalars r q v 0 there))

@@ -1,5 +1,5 @@
 -- The rows of a load are true.
-use Rattle.std.proofs.Common.{◌≡◌, ◌≢◌, ℕ, ◌<◌, ◌≤◌, ◌==◌, Bool, true, false, List, [], ◌∷◌, length, get_or, set, Option, refl, sym, ap, subst, ◌∙◌, arith}
+use Rattle.std.proofs.Common.{◌≡◌, ◌≢◌, ℕ, ◌<◌, ◌≤◌, ◌==◌, Bool, true, false, List, [], ◌∷◌, length, get_or, set, Option, refl, sym, ap, ◌∙◌, arith}
 use Rattle.std.proofs.lemmas.Bool.{and_from}
 use Rattle.std.proofs.lemmas.List.{get_or-set_same, get_or-set_other}
 use Rattle.pg_program.specs.declared.syntax.Stmt.{Stmt}
@@ -28,9 +28,9 @@ use Rattle.pg_tables.specs.Truth.{AllTrue}
 use Rattle.pg_tables.proofs.Truth.{all-one, all-cons, all-append, all-values, all-only_where}
 use Rattle.pg_rules_access.specs.Load.{load_loses, load_gains, load_scalar, load_read, load_then, load_view, load}
 use Rattle.pg_soundness.proofs.Stepped.{Stepped}
-use Rattle.pg_soundness.proofs.Rows.{AreRows, gives, scalar-after}
+use Rattle.pg_soundness.proofs.Rows.{AreRows, by_own, gives, scalar-after}
 use Rattle.pg_soundness.proofs.Views as views
-use Rattle.pg_soundness.proofs.Kept.{by_same, framed, framed_scalar, same_other, same_last}
+use Rattle.pg_soundness.proofs.Kept.{framed, framed_scalar, same_other, same_last}
 
 -- A load of x at p into r: the thread could read x there.
 pub record LoadsAt (n : Seen) (before : List ℕ) (r x p : ℕ) (left : Left) : Type 0 where
@@ -78,9 +78,9 @@ module _ (p : ProgramTable) (s : State) (e : Event) (step : Step) (next : State)
       then-at n x v z w q (record { within = omega (arith, within); reached = at.can; value = ap (λ (k : ℕ). k == v) (sym value) ∙ holds }) can
 
   pub load_scalars : (k j : ℕ) → is_in k (targets stmt) ≡ false → AllTrue val (load_scalar (k == r) e.thread x k j)
-  load_scalars k j out = by_same k r (λ b. AllTrue val (load_scalar b e.thread x k j))
-      (λ here. subst (λ (i : ℕ). AllTrue val (load_scalar true e.thread x i j)) (sym here)
-      (all-only_where val (after (Scalar r j)) (before (Read e.thread x j)) (load_readable j)))
+  load_scalars k j out =
+      by_own val r (λ b i. load_scalar b e.thread x i j) k
+      (all-only_where val (after (Scalar r j)) (before (Read e.thread x j)) (load_readable j))
       (λ there. framed_scalar p s e step next stmt left h act choice k j out
       (ap (λ (i : Left). get_or i.scalars k 0) at.is ∙ get_or-set_other s.scalars r k (value_at n.memory x q) 0 there))
 
@@ -107,9 +107,7 @@ module _ (p : ProgramTable) (s : State) (e : Event) (step : Step) (next : State)
       (all-one val _ (gives val (before (Newest e.thread x) ∷ before (Read e.thread z w) ∷ []) (after (Read e.thread z w)) (λ t.
       new ∙ (views.kept-read n x q h.own_views h.lined at.inside at.can t.0 z w ∙ t.1.0)))))
 
-  -- the row of an atom whose thread is any
-  each : (t : ℕ) → 1 ≤ t → (C : Bool → ℕ → Type 0) → C true e.thread → (t ≢ e.thread → C false t) → C (t == e.thread) t
-  each t from C own other = by_same t e.thread (λ b. C b t) (λ mine. subst (λ (u : ℕ). C true u) (sym mine) own) other
+  -- ---- the atoms of each thread
 
   other-frame : (a : ViewAtom) (t : ℕ) → 1 ≤ t → t ≢ e.thread → (f : Seen → Bool) → atom_holds next a ≡ f (seen_by next t) → atom_holds s a ≡ f (seen_by s t) → AllTrue val (frame a)
   other-frame a t from other f new old =
@@ -118,21 +116,22 @@ module _ (p : ProgramTable) (s : State) (e : Event) (step : Step) (next : State)
   pub load_rows : AreRows val l (load l e.thread r x)
   load_rows = record {
     last = λ z v i. same_last p s e step next stmt left h act choice same z v;
-    read = λ t z w i. each t i.0.first (λ b u. AllTrue val (load_read l b e.thread r x u z w)) (own-read z w)
+    read = λ t z w i. by_own val e.thread (λ b u. load_read l b e.thread r x u z w) t
+        (own-read z w)
         (λ other. other-frame (Read t z w) t i.0.first other (λ k. may_read k z w) refl refl);
-    pairs = λ t z v u w i. each t i.0.first (λ b k. AllTrue val (load_then b e.thread x (Then k z v u w)))
+    pairs = λ t z v u w i. by_own val e.thread (λ b k. load_then b e.thread x (Then k z v u w)) t
         (own-loses (Then e.thread z v u w) (λ k. may_read_then k z v u w) refl (ap (λ (k : Seen). may_read_then k z v u w) sees)
         (views.load-then n x q h.own_views h.lined at.inside at.can z v u w) (λ newest. views.kept-then n x q h.own_views h.lined at.inside at.can newest z v u w))
         (λ other. other-frame (Then t z v u w) t i.0.first other (λ k. may_read_then k z v u w) refl refl);
-    newest = λ t z i. each t i.0.first (λ b u. AllTrue val (load_view b e.thread x (Newest u z)))
+    newest = λ t z i. by_own val e.thread (λ b u. load_view b e.thread x (Newest u z)) t
         (own-gains (Newest e.thread z) (λ k. reads_newest k z) refl (ap (λ (k : Seen). reads_newest k z) sees)
         (views.load-newest n x q h.own_views h.lined at.inside at.can z) (λ newest. views.kept-newest n x q h.own_views h.lined at.inside at.can newest z))
         (λ other. other-frame (Newest t z) t i.0.first other (λ k. reads_newest k z) refl refl);
-    ordered = λ t z i. each t i.0.first (λ b u. AllTrue val (load_view b e.thread x (Ordered u z)))
+    ordered = λ t z i. by_own val e.thread (λ b u. load_view b e.thread x (Ordered u z)) t
         (own-gains (Ordered e.thread z) (λ k. covers_ordered k z) refl (ap (λ (k : Seen). covers_ordered k z) sees)
         (views.load-ordered n x q h.own_views h.lined at.inside at.can z) (λ newest. views.kept-ordered n x q h.own_views h.lined at.inside at.can newest z))
         (λ other. other-frame (Ordered t z) t i.0.first other (λ k. covers_ordered k z) refl refl);
-    fenced = λ t z i. each t i.0.first (λ b u. AllTrue val (load_view b e.thread x (Fenced u z)))
+    fenced = λ t z i. by_own val e.thread (λ b u. load_view b e.thread x (Fenced u z)) t
         (own-gains (Fenced e.thread z) (λ k. covers_fenced k z) refl (ap (λ (k : Seen). covers_fenced k z) sees)
         (views.load-fenced n x q h.own_views h.lined at.inside at.can z) (λ newest. views.kept-fenced n x q h.own_views h.lined at.inside at.can newest z))
         (λ other. other-frame (Fenced t z) t i.0.first other (λ k. covers_fenced k z) refl refl);

@@ -25,8 +25,7 @@ use Rattle.pg_rules_access.specs.Load.{read_then}
 use Rattle.pg_rules_access.specs.Cas.{cas, cas_scalar, cas_read, own_read, cas_then, own_then, cas_view, cas_fenced, own_fenced}
 use Rattle.pg_soundness.proofs.CasShapes.{two_give, two_exclude, failed, kept_if}
 use Rattle.pg_soundness.proofs.Missed as law
-use Rattle.pg_soundness.proofs.Rows.{AreRows}
-use Rattle.pg_soundness.proofs.WrittenRows.{by_own}
+use Rattle.pg_soundness.proofs.Rows.{by_own, AreRows}
 
 -- The act of thread t is a cas of x that expects g, and fails where it reads another value, at p. It reads into r, which its
 -- bracket does not assign.

@@ -1,7 +1,7 @@
 -- A table of rows is true where the row of each atom is. What a step leaves of the scalars that its bracket does not assign.
-use Rattle.std.proofs.Common.{◌≡◌, ◌≢◌, ℕ, ◌<◌, ◌==◌, Bool, true, false, cond, not, ◌||◌, ◌&&◌, List, [], ◌∷◌, map, get_or, set, refl, sym, ap, ◌∙◌, arith}
+use Rattle.std.proofs.Common.{◌≡◌, ◌≢◌, ℕ, ◌<◌, ◌==◌, Bool, true, false, cond, not, ◌||◌, ◌&&◌, List, [], ◌∷◌, map, get_or, set, refl, sym, ap, subst, ◌∙◌, arith}
 use Rattle.std.specs.List.{list_all}
-use Rattle.std.proofs.lemmas.Bool.{or_left, or_right, or_parts, eqb-false}
+use Rattle.std.proofs.lemmas.Bool.{or_left, or_right, or_parts, eqb-true, eqb-false}
 use Rattle.std.proofs.lemmas.List.{get_or-set_other}
 use Rattle.pg_program.specs.declared.syntax.AuxAssign.{AuxAssign}
 use Rattle.pg_program.specs.declared.syntax.Stmt.{Stmt}
@@ -32,6 +32,14 @@ gives val [] a h = or_left (val a) false (h tt)
 gives val (b ∷ ls) a h = by_truth (val b)
     (λ is. or_right (not (val b)) (clause_true val (implies ls (a ∷ []))) (gives val ls a (λ t. h (is, t))))
     (λ is. or_left (not (val b)) (clause_true val (implies ls (a ∷ []))) (ap not is))
+
+-- A row that asks whether its number u is t: it is true where the row of t is, and the row of each other number.
+pub by_own : (val : StepAtom → Bool) (t : ℕ) (row : Bool → ℕ → List (List StepLiteral)) (u : ℕ) → AllTrue val (row true t) → (u ≢ t → AllTrue val (row false u)) → AllTrue val (row (u == t) u)
+by_own val t row u own other = by (u == t) refl
+  where
+    by : (b : Bool) → (u == t) ≡ b → AllTrue val (row b u)
+    by true is = subst (λ (k : ℕ). AllTrue val (row true k)) (sym (eqb-true u t is)) own
+    by false is = other (eqb-false u t is)
 
 -- the rows of the atoms that accesses of memory change are true
 pub record AreRows (val : StepAtom → Bool) (l : Sizes) (row : ViewAtom → List (List StepLiteral)) : Type 0 where

@@ -28,11 +28,11 @@ use Rattle.pg_tables.specs.Steps.{same_line}
 use Rattle.pg_tables.specs.Truth.{AllTrue}
 use Rattle.pg_tables.proofs.Truth.{all-always, all-becomes, all-becomes_both}
 use Rattle.pg_rules_access.specs.Store.{store, store_read, store_then, store_newest, store_ordered, store_fenced}
-use Rattle.pg_soundness.proofs.Rows.{AreRows, scalar-after}
+use Rattle.pg_soundness.proofs.Rows.{by_own, AreRows, scalar-after}
 use Rattle.pg_soundness.proofs.Stepped.{Stepped}
 use Rattle.pg_soundness.proofs.Stored as law
 use Rattle.pg_soundness.proofs.Tests.{and-self}
-use Rattle.pg_soundness.proofs.WrittenRows.{Writes, by_own, value-is, written-last, written-read, written-then, written-newest, written-ordered, written-fenced}
+use Rattle.pg_soundness.proofs.WrittenRows.{Writes, value-is, written-last, written-read, written-then, written-newest, written-ordered, written-fenced}
 
 -- The act of thread t stores e to x.
 pub record Stores (names : NameTable) (d : ℕ) (act : Act-F Act Stmt) (s next : State) (l : Sizes) (t x e : ℕ) : Type 0 where

@@ -26,10 +26,10 @@ use Rattle.pg_rules_access.specs.Store.{store_last, store_read, store_then, stor
 use Rattle.pg_rules_access.specs.Load.{read_then}
 use Rattle.pg_rules_access.specs.Cas.{cas, cas_scalar, cas_read, own_read, cas_then, own_then, cas_view, cas_fenced, own_fenced, if_stored}
 use Rattle.pg_soundness.proofs.CasShapes.{succeeded, stored_if}
-use Rattle.pg_soundness.proofs.Rows.{AreRows}
+use Rattle.pg_soundness.proofs.Rows.{by_own, AreRows}
 use Rattle.pg_soundness.proofs.Swapped as law
 use Rattle.pg_soundness.proofs.Tests.{and-self}
-use Rattle.pg_soundness.proofs.WrittenRows.{Writes, by_own, written-last, written-read, written-then, written-newest, written-ordered, written-fenced}
+use Rattle.pg_soundness.proofs.WrittenRows.{Writes, written-last, written-read, written-then, written-newest, written-ordered, written-fenced}
 
 -- The act of thread t is a cas that expects g, and succeeds in writing e to x.
 pub record Swaps (d : ℕ) (act : Act-F Act Stmt) (choice : Option ℕ) (s next : State) (l : Sizes) (t x e g : ℕ) : Type 0 where

@@ -8,6 +8,7 @@ use Rattle.pg_program.specs.declared.syntax.Expr.{Expr, roll-Expr, fold-roll-Exp
 use Rattle.pg_program.specs.declared.syntax.Expr.TheFolds.{ind-Expr, map-Expr}
 use Rattle.pg_program.specs.declared.syntax.Expr.TheOpen as expr
 use Rattle.pg_program.specs.Expr.{reads, reads_step, value, value_step}
+use Rattle.pg_program.specs.Limits.{most_scalars}
 use Rattle.pg_program.specs.Words.{is_in}
 use Rattle.pg_program.proofs.ExprLemmas.{All-front, All-behind}
 use Rattle.pg_assertion.specs.declared.atom.ViewAtom.TheVariants.{Scalar}
@@ -112,7 +113,7 @@ module _ (val : StepAtom → Bool) (l : Sizes) (side : ℕ → Side) (says : Lis
   abbrev Known : List ℕ → List ℕ → Type 0
   Known names values = (r : ℕ) → is_in r wanted ≡ true → is_in r names ≡ false → get_or values r 0 ≡ get_or real r 0
 
-  known-more : (r k : ℕ) (names values : List ℕ) → length values ≡ 16 → r < 16 → is_in r wanted ≡ true → Known (r ∷ names) values → val (On (Scalar r k) (side r)) ≡ true
+  known-more : (r k : ℕ) (names values : List ℕ) → length values ≡ most_scalars → r < most_scalars → is_in r wanted ≡ true → Known (r ∷ names) values → val (On (Scalar r k) (side r)) ≡ true
       → Known names (set values r k)
   known-more r k names values size low mine known is q here out = elim (cases_eq q r) [
     | inl e ↦ ap (λ (j : ℕ). get_or (set values r k) j 0) e ∙ (get_or-set_same values r k 0 (omega (arith, size, low)) ∙ (one r k mine is ∙ ap (λ (j : ℕ). get_or real j 0) (sym e)))
@@ -121,20 +122,20 @@ module _ (val : StepAtom → Bool) (l : Sizes) (side : ℕ → Side) (says : Lis
         ∙ known q here (or_from (r == q) (is_in q names) (ne_eqb r q (λ e. other (sym e))) out)
   ]
 
-  all-per_tuple : (names : List ℕ) (given : List StepAtom) (values : List ℕ) → length values ≡ 16 → All (λ r. r < 16) names → All (λ r. is_in r wanted ≡ true) names
+  all-per_tuple : (names : List ℕ) (given : List StepAtom) (values : List ℕ) → length values ≡ most_scalars → All (λ r. r < most_scalars) names → All (λ r. is_in r wanted ≡ true) names
       → (AllOf val given → Known names values) → AllTrue val (per_tuple l side says names given values)
   all-per_tuple [] given values size low mine known =
       all-one val (implies given [] ++ (says values ∷ [])) (behind val given (says values) (λ all. said values (all-in _ wanted (λ r is. known all r is refl))))
   all-per_tuple (r ∷ names) given values size low mine known =
       all-values val l (λ k ik. all-per_tuple names (given ++ (On (Scalar r k) (side r) ∷ [])) (set values r k)
-      (length-set values r k ∙ size) (All-tail (λ (q : ℕ). q < 16) r names low) (All-tail (λ (q : ℕ). is_in q wanted ≡ true) r names mine)
+      (length-set values r k ∙ size) (All-tail (λ (q : ℕ). q < most_scalars) r names low) (All-tail (λ (q : ℕ). is_in q wanted ≡ true) r names mine)
       (λ all. let parts = split val given (On (Scalar r k) (side r)) all in
-      known-more r k names values size (All-head (λ (q : ℕ). q < 16) r names low) (All-head (λ (q : ℕ). is_in q wanted ≡ true) r names mine) (known parts.0) parts.1))
+      known-more r k names values size (All-head (λ (q : ℕ). q < most_scalars) r names low) (All-head (λ (q : ℕ). is_in q wanted ≡ true) r names mine) (known parts.0) parts.1))
 
-  pub all-tuples : l.scalars ≤ 16 → All (λ r. r < l.scalars) wanted → AllTrue val (tuples l side wanted says)
+  pub all-tuples : l.scalars ≤ most_scalars → All (λ r. r < l.scalars) wanted → AllTrue val (tuples l side wanted says)
   all-tuples few over =
-      all-per_tuple (in_order l wanted) [] (replicate 16 0) (length-replicate {A = ℕ} 16 0)
-      (All-weaker (λ (r : ℕ). r < l.scalars) (λ (r : ℕ). r < 16) (λ r lt. omega (arith, lt, few)) (in_order l wanted) (in_order_known l wanted))
+      all-per_tuple (in_order l wanted) [] (replicate most_scalars 0) (length-replicate {A = ℕ} most_scalars 0)
+      (All-weaker (λ (r : ℕ). r < l.scalars) (λ (r : ℕ). r < most_scalars) (λ r lt. omega (arith, lt, few)) (in_order l wanted) (in_order_known l wanted))
       (filter_passes (λ r. is_in r wanted) (range_with_len 0 l.scalars))
       (λ all r is out.
       let inside = in-all (λ (q : ℕ). q < l.scalars) wanted r over is in

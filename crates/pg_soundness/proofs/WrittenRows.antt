@@ -1,6 +1,6 @@
 -- The rows of a store that speak of last values and of the other threads are true where a thread writes to a location, by a store or
 -- by a cas that succeeds.
-use Rattle.std.proofs.Common.{◌≡◌, ◌≢◌, ℕ, ◌<◌, ◌≤◌, ◌==◌, Bool, true, false, not, ◌&&◌, ◌||◌, List, length, Option, Some, refl, sym, ap, subst, ◌∙◌, arith}
+use Rattle.std.proofs.Common.{◌≡◌, ◌≢◌, ℕ, ◌<◌, ◌≤◌, ◌==◌, Bool, true, false, not, ◌&&◌, ◌||◌, length, Option, Some, refl, sym, ap, subst, ◌∙◌, arith}
 use Rattle.std.proofs.lemmas.Bool.{eqb-true, eqb-false}
 use Rattle.pg_program.specs.declared.syntax.Act.{Act}
 use Rattle.pg_program.specs.declared.syntax.Act.TheOpen.{Act-F}
@@ -15,7 +15,6 @@ use Rattle.pg_machine.specs.Moves.{Seen}
 use Rattle.pg_machine.specs.Step.{seen_by, views_of}
 use Rattle.pg_views.specs.Atom.{is_last, may_read, may_read_then, reads_newest, covers_ordered, covers_fenced}
 use Rattle.pg_views.specs.Valuation.{is_some, new_value, step_atom_holds}
-use Rattle.pg_tables.specs.declared.clause.StepLiteral.{StepLiteral}
 use Rattle.pg_tables.specs.Shapes.{before, after}
 use Rattle.pg_tables.specs.Truth.{AllTrue}
 use Rattle.pg_tables.proofs.Truth.{all-never, all-becomes, all-gains, all-gains_both}
@@ -33,14 +32,6 @@ pub record Writes (d : ℕ) (act : Act-F Act Stmt) (s next : State) (l : Sizes) 
   pub views : (u : ℕ) → IsThreadNumber l u → AreViews s.memory (views_of s u)
   pub inside : x < length s.memory.initial
   pub located : length s.memory.initial ≡ l.locations
-
--- the row of a thread is that of the thread t, or of another one
-pub by_own : (val : StepAtom → Bool) (t : ℕ) (row : Bool → ℕ → List (List StepLiteral)) (u : ℕ) → AllTrue val (row true t) → (u ≢ t → AllTrue val (row false u)) → AllTrue val (row (u == t) u)
-by_own val t row u own other = by (u == t) refl
-  where
-    by : (b : Bool) → (u == t) ≡ b → AllTrue val (row b u)
-    by true is = subst (λ (k : ℕ). AllTrue val (row true k)) (sym (eqb-true u t is)) own
-    by false is = other (eqb-false u t is)
 
 -- two reads of the location: the new message is one of them, or both, or neither
 twice-apart : (is was read from to : Bool) → is ≡ ((from && to) || (was || (read && to)))
