@@ -1,7 +1,3 @@
-mod PersistShown
-mod PersistBounds
-mod PersistRows
-mod PersistTrue
 pub mod Stepped
 pub mod Rows
 pub mod Tuples

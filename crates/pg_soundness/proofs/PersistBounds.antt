@@ -1,33 +1,26 @@
 -- Up to where the values are shown that a crash may leave after a step, and those that it may leave after a fence.
-use Rattle.std.proofs.Common.{◌≡◌, ◌≢◌, ℕ, ◌+◌, ◌-◌, ◌<◌, ◌≤◌, max, Bool, List, length, get_or, refl, sym, ap, ◌∙◌, arith}
+use Rattle.std.proofs.Common.{◌≡◌, ℕ, ◌<◌, ◌≤◌, max, List, length, get_or, sym, ap, ◌∙◌, arith}
 use Rattle.std.proofs.lemmas.List.{get_or-set_same, get_or-set_other}
 use Rattle.pg_assertion.specs.declared.atom.ViewAtom.TheVariants.{Persist, Async}
-use Rattle.pg_program.specs.Program.{ProgramTable, IsProgram}
-use Rattle.pg_machine.specs.declared.event.Event.{Event}
-use Rattle.pg_machine.specs.Memory.{Memory, line_of}
-use Rattle.pg_machine.specs.State.{Views, State, AreViews, IsWellFormed, maxcoh, ordered, vpa_of, vpc_of, committed}
-use Rattle.pg_machine.specs.Moves.{Seen, mfence_seen, load_seen, flush_seen, flushopt_seen}
-use Rattle.pg_machine.specs.Step.{IsStep, views_of}
-use Rattle.pg_machine.proofs.Moved.{step-own, step-other, step-commits}
-use Rattle.pg_machine.proofs.PositionLists.{greater-at, greater-length, line-within}
-use Rattle.pg_views.specs.Atom.{is_shown, committed_to, committed_next, atom_holds}
-use Rattle.std.proofs.Common.{◌≡◌, ℕ, ◌<◌, ◌≤◌, max, List, length, get_or, sym, ap, ◌∙◌, arith}
 use Rattle.pg_program.specs.declared.point.Step.{Step}
 use Rattle.pg_program.specs.declared.syntax.Stmt.{Stmt}
 use Rattle.pg_program.specs.Program.{ProgramTable}
+use Rattle.pg_machine.specs.declared.event.Event.{Event}
+use Rattle.pg_machine.specs.Memory.{Memory, line_of}
 use Rattle.pg_machine.specs.State.{Views, State, AreViews, maxcoh, ordered, vpa_of, vpc_of, committed}
+use Rattle.pg_machine.specs.Moves.{Seen, mfence_seen, load_seen, flush_seen, flushopt_seen}
 use Rattle.pg_machine.specs.Step.{Left, views_of}
+use Rattle.pg_machine.proofs.PositionLists.{greater-at, greater-length, line-within}
+use Rattle.pg_views.specs.Atom.{is_shown, committed_to, committed_next, atom_holds}
 use Rattle.pg_soundness.proofs.Stepped.{Stepped}
 
 -- what a step of thread t leaves, where its act leaves it to see n
 pub record LeavesSeen (s next : State) (t : ℕ) (n : Seen) : Type 0 where
   pub memory : next.memory ≡ n.memory
   pub lines : n.memory.lines ≡ s.memory.lines
-  pub committed : (l : ℕ) → committed next l ≡ max (committed s l) (vpc_of n.views l)
+  pub commits : (l : ℕ) → committed next l ≡ max (committed s l) (vpc_of n.views l)
   pub own : views_of next t ≡ n.views
   pub others : (u : ℕ) → 1 ≤ u → (u ≡ t → ⊥) → views_of next u ≡ views_of s u
-  pub was_committed : (l : ℕ) → vpc_of (views_of s t) l ≤ committed s l
-  pub commits : (l : ℕ) → committed next l ≡ max (committed s l) (vpc_of n.views l)
   pub was : (l : ℕ) → vpc_of (views_of s t) l ≤ committed s l
 
 pub leaves-seen : (p : ProgramTable) (s : State) (e : Event) (step : Step) (next : State) (stmt : Stmt) (left : Left) (n : Seen) → Stepped p s e step next stmt left → left.seen ≡ n
@@ -48,7 +41,6 @@ module _ (s next : State) (t : ℕ) (n : Seen) (h : LeavesSeen s next t n) where
   line z = ap (λ (m : Memory). line_of m z) h.memory ∙ ap (λ (k : List ℕ). get_or k z 0) h.lines
 
   committed-is : (z : ℕ) → committed_to next z ≡ max (committed_to s z) (vpc_of n.views (line_of s.memory z))
-  committed-is z = ap (committed next) (line z) ∙ h.committed (line_of s.memory z)
   committed-is z = ap (committed next) (line z) ∙ h.commits (line_of s.memory z)
 
   pub persist-upto : (z v b : ℕ) → max (committed_to s z) (vpc_of n.views (line_of s.memory z)) ≡ b → atom_holds next (Persist z v) ≡ is_shown n.memory z 0 b v
@@ -73,30 +65,24 @@ module _ (s next : State) (t : ℕ) (n : Seen) (h : LeavesSeen s next t n) where
   -- where the line of z is not written back to
   module _ (z v : ℕ) (kept : vpc_of n.views (line_of s.memory z) ≡ vpc_of (views_of s t) (line_of s.memory z)) where
     pub kept-persist : atom_holds next (Persist z v) ≡ is_shown n.memory z 0 (committed_to s z) v
-    kept-persist = let was = h.was_committed (line_of s.memory z) in persist-upto z v (committed_to s z) (omega (arith, was, kept))
+    kept-persist = let was = h.was (line_of s.memory z) in persist-upto z v (committed_to s z) (omega (arith, was, kept))
 
     pub kept-own : vpa_of n.views (line_of s.memory z) ≡ vpa_of (views_of s t) (line_of s.memory z) → atom_holds next (Async t z v) ≡ is_shown n.memory z 0 (committed_next s t z) v
-    kept-own e = let was = h.was_committed (line_of s.memory z) in own-upto z v (committed_next s t z) (omega (arith, was, kept, e))
+    kept-own e = let was = h.was (line_of s.memory z) in own-upto z v (committed_next s t z) (omega (arith, was, kept, e))
 
     pub kept-other : (u : ℕ) → 1 ≤ u → (u ≡ t → ⊥) → atom_holds next (Async u z v) ≡ is_shown n.memory z 0 (committed_next s u z) v
-    kept-other u low other = let was = h.was_committed (line_of s.memory z) in other-upto u z v (committed_next s u z) low other (omega (arith, was, kept))
-    kept-persist = let was = h.was (line_of s.memory z) in persist-upto z v (committed_to s z) (omega (arith, was, kept))
-    kept-own e = let was = h.was (line_of s.memory z) in own-upto z v (committed_next s t z) (omega (arith, was, kept, e))
     kept-other u low other = let was = h.was (line_of s.memory z) in other-upto u z v (committed_next s u z) low other (omega (arith, was, kept))
 
   -- where what the thread has begun to write back is committed
   module _ (z v : ℕ) (back : vpc_of n.views (line_of s.memory z) ≡ max (vpc_of (views_of s t) (line_of s.memory z)) (vpa_of (views_of s t) (line_of s.memory z))) where
     pub back-persist : atom_holds next (Persist z v) ≡ is_shown n.memory z 0 (committed_next s t z) v
-    back-persist = let was = h.was_committed (line_of s.memory z) in persist-upto z v (committed_next s t z) (omega (arith, was, back))
+    back-persist = let was = h.was (line_of s.memory z) in persist-upto z v (committed_next s t z) (omega (arith, was, back))
 
     pub back-own : vpa_of n.views (line_of s.memory z) ≡ vpa_of (views_of s t) (line_of s.memory z) → atom_holds next (Async t z v) ≡ is_shown n.memory z 0 (committed_next s t z) v
-    back-own e = let was = h.was_committed (line_of s.memory z) in own-upto z v (committed_next s t z) (omega (arith, was, back, e))
+    back-own e = let was = h.was (line_of s.memory z) in own-upto z v (committed_next s t z) (omega (arith, was, back, e))
 
     pub back-other : (u : ℕ) → 1 ≤ u → (u ≡ t → ⊥) → atom_holds next (Async u z v) ≡ is_shown n.memory z 0 (max (committed_next s u z) (committed_next s t z)) v
     back-other u low other =
-        let was = h.was_committed (line_of s.memory z) in
-    back-persist = let was = h.was (line_of s.memory z) in persist-upto z v (committed_next s t z) (omega (arith, was, back))
-    back-own e = let was = h.was (line_of s.memory z) in own-upto z v (committed_next s t z) (omega (arith, was, back, e))
         let was = h.was (line_of s.memory z) in
         other-upto u z v (max (committed_next s u z) (committed_next s t z)) low other (omega (arith, was, back))
 

@@ -1,13 +1,6 @@
--- What is shown of a location: less up to a later position, up to the greater of two positions what is shown up to both, and after
--- a store to the location its value too.
-use Rattle.std.proofs.Common.{◌≡◌, ℕ, zero, suc, ◌<◌, ◌≤◌, ◌==◌, max, Bool, true, false, ◌&&◌, ◌||◌, List, [], ◌∷◌, ◌++◌, length, inl, inr, refl, sym, ap, ap₂, ◌∙◌, arith}
-use Rattle.std.proofs.lemmas.Bool.{cases_lt, and_parts, and_from}
-use Rattle.pg_machine.specs.Memory.{Memory, is_at, reaches, last, last_value, value_at, message_appended}
-use Rattle.pg_machine.proofs.Appended.{length-appended, value_at-front, value_at-new}
-use Rattle.pg_machine.proofs.Reached.{reaches_of, reaches-less, reaches-within, reaches-front, reaches-new, reaches-other, last_upto-above, last_upto-grows, last-alone, within-last, same_truth}
-use Rattle.pg_views.specs.Atom.{some_below, shows, is_shown, is_last}
 -- What is shown of a location: less up to a later position, and up to the greater of two positions what is shown up to both.
 use Rattle.std.proofs.Common.{◌≡◌, ℕ, ◌≤◌, ◌==◌, max, true, ◌&&◌, inl, inr, sym, ap, ◌∙◌, arith}
+use Rattle.std.proofs.lemmas.Bool.{cases_lt, and_parts, and_from}
 use Rattle.pg_machine.specs.Memory.{Memory, is_at, last, value_at}
 use Rattle.pg_machine.proofs.Reached.{reaches-less, reaches-within, last_upto-above, last_upto-grows, last-alone, within-last, same_truth}
 use Rattle.pg_views.specs.Atom.{is_shown, is_last}
@@ -37,45 +30,8 @@ shown-from m x c k n v at from upto =
     shown-within m x 0 n c k (reaches-within m.messages x c k 0 n (omega (arith, above, grows))) v
 
 -- and it is the last value, where the bound covers the last position
-pub shown-last : (m : Memory) (x n v : ℕ) → last m.messages x ≤ n → is_shown m x 0 n v ≡ true → is_last m x v ≡ true
-shown-last m x n v covered h =
+pub shown-covered : (m : Memory) (x n v : ℕ) → last m.messages x ≤ n → is_shown m x 0 n v ≡ true → is_last m x v ≡ true
+shown-covered m x n v covered h =
     let at = shown_where m x 0 n v h in
     let alone = last-alone m.messages x 0 n (within-last m.messages x 0 n covered) at.0 at.1.reached in
     ap (λ (p : ℕ). value_at m x p == v) (sym alone) ∙ at.1.value
-
--- ---- a message more
-
-some_below-same : (f g : ℕ → Bool) (n : ℕ) → ((p : ℕ) → p < n → f p ≡ g p) → some_below f n ≡ some_below g n
-some_below-same f g zero h = refl
-some_below-same f g (suc n) h = ap₂ (λ (a b : Bool). a || b) (h n (omega arith)) (some_below-same f g n (λ p lt. h p (omega (arith, lt))))
-
-either : (a b : Bool) → (a || b) ≡ (b || a)
-either true true = refl
-either true false = refl
-either false true = refl
-either false false = refl
-
--- of the message itself, and of all others
-split-new : (m : Memory) (st : ℕ × ℕ) (x c n v : ℕ) → n ≤ length m.messages
-    → is_shown (message_appended m st) x c n v ≡ (shows (message_appended m st) x c n v (suc (length m.messages)) || is_shown m x c n v)
-split-new m st x c n v upto =
-    let longer = message_appended m st in
-    ap (λ (k : ℕ). some_below (shows longer x c n v) (suc k)) (length-appended m.messages st)
-    ∙ ap (λ (b : Bool). shows longer x c n v (suc (length m.messages)) || b) (some_below-same (shows longer x c n v) (shows m x c n v) (suc (length m.messages)) (λ p lt.
-    ap₂ (λ (a : Bool) (w : ℕ). a && (w == v)) (reaches-front m.messages st x c n p upto (omega (arith, lt))) (value_at-front m st x p (omega (arith, lt)))))
-
--- its location shows its value too
-pub shown-stored : (m : Memory) (x e c n v : ℕ) → c ≤ suc (length m.messages) → n ≤ length m.messages
-    → is_shown (message_appended m (x, e)) x c n v ≡ (is_shown m x c n v || (e == v))
-shown-stored m x e c n v from upto =
-    split-new m (x, e) x c n v upto
-    ∙ (ap₂ (λ (a : Bool) (w : ℕ). (a && (w == v)) || is_shown m x c n v) (reaches-new m.messages x e c n from) (value_at-new m (x, e) x)
-    ∙ either (e == v) (is_shown m x c n v))
-
--- and every other one what it showed
-pub shown-elsewhere : (m : Memory) (st : ℕ × ℕ) (x c n v : ℕ) → (st.0 ≡ x → ⊥) → n ≤ length m.messages → is_shown (message_appended m st) x c n v ≡ is_shown m x c n v
-shown-elsewhere m st x c n v other upto =
-    split-new m st x c n v upto
-    ∙ ap (λ (a : Bool). (a && (value_at (message_appended m st) x (suc (length m.messages)) == v)) || is_shown m x c n v) (reaches-other m.messages st x c n other)
-pub shown-covered : (m : Memory) (x n v : ℕ) → last m.messages x ≤ n → is_shown m x 0 n v ≡ true → is_last m x v ≡ true
-shown-covered m x n v covered h =

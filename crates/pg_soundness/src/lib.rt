@@ -5,7 +5,7 @@
 #![tactic(auto)]
 
 mod laws;
+mod persist;
 
 pub use laws::access_rules_are_true;
-mod persist;
 pub use persist::persist_rules_are_true;
