@@ -7,10 +7,12 @@ abbrev pub walk : List ℕ → ℕ → ℕ → List ℕ
 walk next zero head = []
 walk next (suc n) head = head ∷ walk next n (slice_index_or next head 0)
 
+-- what contracts see of chains
 pub record ChainTable : Type 0 where
   pub lists : List (List ℕ)
   pub slots : ℕ
 
+-- the chain with a number
 abbrev pub chain : List (List ℕ) → ℕ → List ℕ
 chain ls m = slice_index_or ls m []
 
@@ -21,6 +23,7 @@ held ls = weigh length ls
 abbrev pub times : ℕ → List (List ℕ) → ℕ
 times x ls = weigh (occurs x) ls
 
+-- each slot stands once at most, in one chain
 pub record AreChains (ls : List (List ℕ)) (slots : ℕ) : Type 0 where
   pub once : (x : ℕ) → times x ls ≤ 1
   pub within : (x : ℕ) → slots ≤ x → times x ls ≡ 0
@@ -32,5 +35,6 @@ pub record IsFree (t : ChainTable) (x : ℕ) : Type 0 where
   pub slot : x < t.slots
   pub room : held t.lists < t.slots
 
+-- one chain in place of another
 abbrev pub with_chain : ChainTable → ℕ → List ℕ → ChainTable
 with_chain t m xs = record { lists = slice_set t.lists m xs; slots = t.slots }

@@ -1,7 +1,6 @@
 -- The search: the branches that are still to be visited, and what is kept from node to node.
-use Rattle.std.specs.Prelude.{◌≡◌, ℕ, ◌+◌, ◌*◌, ◌<◌, ◌≤◌, false, List, [], length, take, slice_index_or}
+use Rattle.std.specs.Prelude.{◌≡◌, ℕ, ◌<◌, ◌≤◌, false, List, [], length, take, slice_index_or}
 use Rattle.pg_region.specs.Literal.{Literal, negated}
-use Rattle.pg_region.specs.Pieces.{total}
 use Rattle.pg_decider.specs.Assignment.{on}
 use Rattle.pg_decider.specs.Chains.{chain, ChainTable}
 use Rattle.pg_decider.specs.Trail.{none, TrailTable, added_to, cut}
@@ -13,7 +12,7 @@ use Rattle.pg_decider.specs.declared.settle.Node.TheVariants.{Shut, Met, Open}
 abbrev pub branch : List Branch → ℕ → Branch
 branch bs i = slice_index_or bs i (record { mark = 0; literal = none })
 
--- a literal that can be added to a trail
+-- a literal of the trail's atoms without a value among ls
 pub record IsOpen (t : TrailTable) (ls : List Literal) (l : Literal) : Type 0 where
   pub within : l.atom ≤ t.atoms
   pub free : on ls l ≡ false
@@ -25,6 +24,7 @@ pub record IsBranch (cs : List (List Literal)) (ws : List Literal) (t : TrailTab
   pub unset : IsOpen t (take b.mark t.literals) b.literal
   pub watched : Watched cs ws (on (take b.mark t.literals))
 
+-- marks rise, so there are no more branches than literals on the trail
 pub record AreBranches (cs : List (List Literal)) (ws : List Literal) (t : TrailTable) (bs : List Branch) : Type 0 where
   pub low : (i : ℕ) → i < length bs → i ≤ (branch bs i).mark
   pub rising : (i j : ℕ) → i < j → j < length bs → (branch bs i).mark < (branch bs j).mark
@@ -43,10 +43,7 @@ pub record Searching (cs : List (List Literal)) (ws : List Literal) (ct : ChainT
   pub watching : Watching cs ws [] (on (take from t.literals)) (on t.literals) (length ws)
   pub branches : AreBranches cs ws t bs
 
--- the looks of n nodes
-abbrev pub looks_of : List (List Literal) → ℕ → ℕ
-looks_of cs n = n * (length cs + total cs)
-
+-- where a node is open, or met
 abbrev pub IfOpen : Node → (Literal → Type 0) → Type 0
 IfOpen Met P = Unit {0}
 IfOpen (Open l) P = P l

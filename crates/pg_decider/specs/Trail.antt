@@ -4,12 +4,14 @@ use Rattle.pg_region.specs.Literal.{Literal, negated}
 use Rattle.pg_decider.specs.Assignment.{on}
 use Rattle.pg_decider.specs.Weigh.{weigh}
 
+-- what stands in a list past its end
 abbrev pub none : Literal
 none = record { atom = 0; positive = false }
 
 abbrev pub lit : List Literal → ℕ → Literal
 lit ls i = slice_index_or ls i none
 
+-- what contracts see of a trail: the greatest atom, the literals, and beside each the number of the clause that forced it
 pub record TrailTable : Type 0 where
   pub atoms : ℕ
   pub literals : List Literal
@@ -19,10 +21,12 @@ pub record TrailTable : Type 0 where
 abbrev pub reason : TrailTable → ℕ → ℕ
 reason t i = slice_index_or t.reasons i 0
 
+-- the value of an atom; it is 0 where the atom has none
 abbrev pub code : Bool → ℕ
 code true = 1
 code false = 2
 
+-- how many atoms have no value
 abbrev pub zeros : ℕ → ℕ
 zeros v = if v == 0 then 1 else 0
 
@@ -46,6 +50,7 @@ pub record AreValues (values : List ℕ) (t : List Literal) (room : ℕ) : Type 
   pub fits : length values ≤ room
   pub small : length values ≤ 2 ^ 31
 
+-- a literal is added, and literals are taken back
 abbrev pub added_to : TrailTable → Literal → ℕ → TrailTable
 added_to t l n = record { atoms = t.atoms; literals = t.literals ++ l ∷ []; reasons = t.reasons ++ n ∷ [] }
 

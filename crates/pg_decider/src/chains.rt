@@ -1,4 +1,4 @@
-//! Lists of slots, one after the other in two arrays.
+//! Chains of slots, linked in two arrays. A slot stands in one chain at most.
 
 ghost use Rattle.std.specs.Prelude.{◌≡◌, ℕ, ◌+◌, ◌-◌, ◌<◌, ◌≤◌, ◌^◌, List, [], ◌∷◌, length, replicate, slice_set, drop, map, MatchOption, IfOk};
 ghost use Rattle.pg_decider.specs.Chains.{chain, with_chain, times, held, IsFree, AreChains};
@@ -7,12 +7,14 @@ ghost use Rattle.pg_decider.specs.Weigh.{weigh};
 use std::alloc::{AllocError, Global};
 use std::marker::Model;
 
+/// The first slot of a chain, and how many slots it has.
 #[derive(Clone, Copy, Debug, Drop)]
 pub struct Start {
     head: u32,
     size: u32,
 }
 
+/// Where each chain begins, and for each slot the next one of its chain. Chains are numbered from 0, and slots too.
 #[derive(Debug, Drop)]
 pub struct Chains {
     starts: Vec<Start>,
@@ -32,6 +34,7 @@ impl Model for Chains {
 }
 
 impl Chains {
+    /// So many empty chains, for so many slots.
     pub fn make(alloc: Global, lists: usize, slots: u32) -> Result<Chains, AllocError>
         ensures { IfOk result (λ c. c ≡ record { lists = replicate lists []; slots = slots }) }
     {
@@ -40,14 +43,14 @@ impl Chains {
         Ok(Chains { starts, next })
     }
 
-    /// Empties each list.
+    /// Empties each chain.
     pub fn clear(&mut self)
         ensures { self.new ≡ record { lists = replicate (length self.old.lists) []; slots = self.old.slots } }
     {
         empty_all(self.starts.as_mut_slice());
     }
 
-    /// Moves what stands in a list to the first list, which is empty.
+    /// Moves what stands in a chain to chain 0, which is empty.
     pub fn detach(&mut self, list: usize)
         requires list { (0 < list) × (list < length self.old.lists) }
         requires empty { chain self.old.lists 0 ≡ [] }
@@ -59,7 +62,7 @@ impl Chains {
         self.starts[list] = Start { head: 0, size: 0 };
     }
 
-    /// Takes the first slot of a list.
+    /// Takes the first slot of a chain.
     pub fn pop(&mut self, list: usize) -> Option<u32>
         requires { list < length self.old.lists }
         ensures { MatchOption result ((chain self.old.lists list ≡ []) × (self.new ≡ self.old)) (λ x. (chain self.old.lists list ≡ x ∷ drop 1 (chain self.old.lists list)) × (self.new ≡ with_chain self.old list (drop 1 (chain self.old.lists list))) × IsFree self.new x) }
@@ -75,7 +78,7 @@ impl Chains {
         Some(start.head)
     }
 
-    /// Puts a slot that stands in no list at the head of a list.
+    /// Puts a slot that stands in no chain at the head of a chain.
     pub fn push(&mut self, list: usize, slot: u32)
         requires list { list < length self.old.lists }
         requires free { IsFree self.old slot }
@@ -90,6 +93,7 @@ impl Chains {
     }
 }
 
+/// Makes each chain an empty one.
 fn empty_all(starts: &mut [Start])
     ensures { weigh (λ s. s.size) starts.new ≡ 0 }
 {
@@ -98,6 +102,7 @@ fn empty_all(starts: &mut [Start])
     }
 }
 
+/// The starts of so many empty chains.
 fn no_starts(alloc: Global, lists: usize) -> Result<Vec<Start>, AllocError>
     ensures empty { IfOk result (λ v. weigh (λ s. s.size) v.items ≡ 0) }
     ensures length { IfOk result (λ v. length v.items ≡ lists) }
@@ -109,6 +114,7 @@ fn no_starts(alloc: Global, lists: usize) -> Result<Vec<Start>, AllocError>
     Ok(starts)
 }
 
+/// The links of so many slots.
 fn no_slots(alloc: Global, slots: usize) -> Result<Vec<u32>, AllocError>
     ensures { IfOk result (λ v. length v.items ≡ slots) }
 {

@@ -1,4 +1,4 @@
-//! The literal to split at.
+//! The split literal of a node, found in one pass over the clauses.
 
 ghost use Rattle.std.specs.Prelude.{◌≡◌, ℕ, Bool, List, ◌+◌, ◌-◌, ◌<◌, ◌≤◌, true, false, not, ◌&&◌, ◌||◌, [], ◌∷◌, length, IfSome};
 ghost use Rattle.pg_region.specs.Literal.{Literal, negated, same};
@@ -15,8 +15,11 @@ use pg_region::{ClauseReader, Lit};
 /// a false literal, how many literals without a value it has.
 #[derive(Clone, Copy, Debug, Drop)]
 pub enum Found {
+    /// Each clause had a true literal.
     Nothing,
+    /// The first clause without a true literal.
     Untouched(Option<Lit>),
+    /// The best clause with a false literal.
     Touched(usize, Option<Lit>),
 }
 

@@ -1,4 +1,4 @@
-//! The assignment, as a trail that is undone.
+//! The trail: the literals that are true, which are taken back in the opposite order.
 
 ghost use Rattle.std.specs.Prelude.{◌≡◌, ℕ, ◌+◌, ◌-◌, ◌<◌, ◌≤◌, ◌^◌, false, [], ◌∷◌, ◌++◌, length, take, IfOk};
 ghost use Rattle.pg_region.specs.Literal.{Literal, negated};
@@ -29,7 +29,7 @@ impl Model for Trail {
 }
 
 impl Trail {
-    /// An empty trail over atoms from 1 to `atoms`.
+    /// An empty trail over the atoms up to `atoms`.
     pub fn make(alloc: Global, atoms: u32) -> Result<Trail, AllocError>
         requires { atoms < 2 ^ 31 }
         ensures { IfOk result (λ t. t ≡ record { atoms = atoms; literals = []; reasons = [] }) }
@@ -78,6 +78,7 @@ impl Trail {
         self.reasons[i as usize]
     }
 
+    /// Whether a literal is true.
     pub fn is_true(&self, l: Lit) -> bool
         requires { l.atom ≤ self.now.atoms }
         ensures value { result ≡ on self.now.literals l }
@@ -86,7 +87,7 @@ impl Trail {
         self.values[l.atom() as usize] == coded(l.positive())
     }
 
-    /// Adds a literal that the clause with the number `reason` forces, or one that is chosen, with the reason 0.
+    /// Adds a literal that the clause with the number `reason` forces, or one that is chosen, with the reason 0. There is room for it.
     pub fn add(&mut self, l: Lit, reason: u32)
         requires atom { l.atom ≤ self.old.atoms }
         requires free { on self.old.literals l ≡ false }
@@ -113,6 +114,7 @@ impl Trail {
     }
 }
 
+/// The value of an atom with a true literal; 0 is that of one without a value.
 fn coded(positive: bool) -> u8
     ensures { result ≡ code positive }
 {

@@ -13,6 +13,8 @@ mod axioms;
 #[cfg(test)]
 mod bodies;
 #[cfg(test)]
+mod decider;
+#[cfg(test)]
 mod lines;
 #[cfg(test)]
 mod meanings;
