@@ -9,12 +9,14 @@ use Rattle.pg_region.specs.Literal.{Literal, same, negated}
 use Rattle.pg_region.specs.Region.{clause_at}
 use Rattle.pg_decider.specs.Assignment.{Assignment, on, added, Within, Forces, AreFalse, HasConflict, IsClosed, IsClosure}
 use Rattle.pg_decider.specs.Laws.{AreOver, HasSmallTree}
-use Rattle.pg_decider.specs.Outcome.{Answers, IsOutcome}
+use Rattle.pg_decider.specs.Leaf.{IsLog}
+use Rattle.pg_decider.specs.Outcome.{Answers, IfClosed, IsOutcome}
 use Rattle.pg_decider.specs.Reached.{Reached, AreWithin}
 use Rattle.pg_decider.specs.Split.{free, split_literal, bit}
 use Rattle.pg_decider.specs.Tree.{Tree, shut, met, fork, IsTree, size}
 use Rattle.pg_decider.specs.declared.log.TreeNode.{TreeNode}
 use Rattle.pg_decider.specs.declared.verdict.Verdict.{Verdict}
+use Rattle.pg_decider.specs.declared.verdict.Verdict.TheVariants.{Closed, Model, Spent}
 use Rattle.pg_decider.proofs.Literals.{same-is, same-refl, added-cases, same_parts, negated-negated}
 use Rattle.pg_decider.proofs.Splits.{split-picks, all-met}
 
@@ -334,6 +336,12 @@ pub outcome : (n : ℕ) (cs : List (List Literal)) (v : Verdict) (b : ℕ) (log 
 outcome n cs v b log s over says =
     let x = tree-exists 0 (suc n) cs (on []) (λ k l h. (omega arith, omega (arith, over k l h))) in
     record { tree = x.tree; is = x.is; answers = says x.tree x.is }
+
+-- after Closed the log is that of a closed tree
+pub closed-log : (cs : List (List Literal)) (v : Verdict) (b : ℕ) (log : List TreeNode) (s : Assignment) → IsOutcome cs v b log s → IfClosed v (IsLog cs log)
+closed-log cs (Closed n) b log s o = record { tree = o.tree; is = o.is; closed = o.answers.0; whole = o.answers.3 }
+closed-log cs (Model n) b log s o = tt
+closed-log cs Spent b log s o = tt
 
 -- the literals of clauses whose atoms are few are within more atoms
 pub within-more : (n m : ℕ) (cs : List (List Literal)) → All (All (λ (l : Literal). l.atom ≤ n)) cs → n ≤ m → AreWithin m cs

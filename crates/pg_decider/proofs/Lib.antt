@@ -15,3 +15,6 @@ pub mod Splits
 pub mod Trees
 pub mod Existing
 pub mod Sound
+pub mod Standing
+pub mod Leaning
+pub mod Walked

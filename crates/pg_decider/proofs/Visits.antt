@@ -3,9 +3,8 @@ use Rattle.std.proofs.lemmas.Bool.{cases_lt, or_left, or_right, and_parts, not-t
 use Rattle.std.proofs.lemmas.List.{get_or-set_same, length-set, take_more, get_or_read, take-append-le, take_all, take-take, length_push, get_or_append_left, get_or_push, get_or-take}
 use Rattle.pg_region.specs.Literal.{Literal, same, negated, sign_bit}
 use Rattle.pg_region.specs.Region.{clause_at}
-use Rattle.pg_decider.specs.Assignment.{on, added, Within, AreFalse}
+use Rattle.pg_decider.specs.Assignment.{on, added, Within, AreFalse, IsUnit}
 use Rattle.pg_decider.specs.Chains.{chain, ChainTable, IsFree}
-use Rattle.pg_decider.specs.Reached.{IsUnit}
 use Rattle.pg_decider.specs.Trail.{lit, none, TrailTable, reason, added_to}
 use Rattle.pg_decider.specs.Watch.{place, other, Placed, Shape, Grown, IsReason}
 use Rattle.pg_decider.proofs.Literals.{same-refl, same-cases, on-push, added-cases, added-here}
@@ -38,7 +37,7 @@ find-more c t i x second lt is bad before m h apart =
       | inr s ↦ before m s apart
     ]
 
-sign_bit-le : (b : Bool) → sign_bit b ≤ 1
+pub sign_bit-le : (b : Bool) → sign_bit b ≤ 1
 sign_bit-le true = omega arith
 sign_bit-le false = omega arith
 

@@ -24,6 +24,12 @@ pub record Forces (s : Assignment) (c : List Literal) (l : Literal) : Type 0 whe
   pub has : on c l ≡ true
   pub others : (m : Literal) → on c m ≡ true → same m l ≡ false → s (negated m) ≡ true
 
+-- l has no value, and c forces it
+pub record IsUnit (s : Assignment) (c : List Literal) (l : Literal) : Type 0 where
+  pub free : s l ≡ false
+  pub unset : s (negated l) ≡ false
+  pub forced : Forces s c l
+
 -- each literal of a clause is false
 pub record AreFalse (s : Assignment) (c : List Literal) : Type 0 where
   pub each : (m : Literal) → on c m ≡ true → s (negated m) ≡ true

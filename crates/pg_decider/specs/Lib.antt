@@ -4,6 +4,7 @@ pub mod Split
 pub mod Tree
 pub mod Outcome
 pub mod Held
+pub mod Leaf
 pub mod Laws
 pub mod Chains
 pub mod Starts
@@ -14,4 +15,6 @@ pub mod Watch
 pub mod Noted
 pub mod Search
 pub mod Progress
+pub mod Walk
+pub mod Lean
 pub mod Work

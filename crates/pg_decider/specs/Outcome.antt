@@ -20,6 +20,12 @@ pub record IsOutcome (cs : List (List Literal)) (v : Verdict) (budget : ℕ) (lo
   pub is : IsTree cs (on []) tree
   pub answers : Answers v budget log s tree
 
+-- something that holds where a tree is closed
+abbrev pub IfClosed : Verdict → Type 0 → Type 0
+IfClosed (Closed n) P = P
+IfClosed (Model n) P = Unit {0}
+IfClosed Spent P = Unit {0}
+
 -- how many nodes were visited within the budget
 abbrev pub nodes_of : Verdict → ℕ → ℕ
 nodes_of (Closed n) budget = n

@@ -1,14 +1,8 @@
--- Steps of unit propagation: sets between an assignment and its closure.
-use Rattle.std.specs.Prelude.{◌≡◌, ℕ, ◌≤◌, true, false, List}
-use Rattle.pg_region.specs.Literal.{Literal, negated}
+-- Sets between an assignment and its closure.
+use Rattle.std.specs.Prelude.{◌≡◌, ℕ, ◌≤◌, true, List}
+use Rattle.pg_region.specs.Literal.{Literal}
 use Rattle.pg_region.specs.Region.{clause_at}
-use Rattle.pg_decider.specs.Assignment.{Assignment, on, Within, Forces, IsClosed}
-
--- l has no value, and c forces it
-pub record IsUnit (s : Assignment) (c : List Literal) (l : Literal) : Type 0 where
-  pub free : s l ≡ false
-  pub unset : s (negated l) ≡ false
-  pub forced : Forces s c l
+use Rattle.pg_decider.specs.Assignment.{Assignment, on, Within, IsClosed}
 
 -- v contains s, and each closed set that contains s contains v
 pub record Reached (cs : List (List Literal)) (s v : Assignment) : Type 0 where

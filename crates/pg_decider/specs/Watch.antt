@@ -4,10 +4,10 @@
 use Rattle.std.specs.Prelude.{◌≡◌, ℕ, ◌+◌, ◌-◌, ◌*◌, ◌/◌, ◌%◌, ◌^◌, ◌<◌, ◌≤◌, Bool, true, false, ◌==◌, if◌then◌else◌, List, [], length, take}
 use Rattle.pg_region.specs.Literal.{Literal, negated, word_of}
 use Rattle.pg_region.specs.Region.{clause_at}
-use Rattle.pg_decider.specs.Assignment.{Assignment, on, added, Within, HasConflict}
+use Rattle.pg_decider.specs.Assignment.{Assignment, on, added, Within, HasConflict, IsUnit}
 use Rattle.pg_decider.specs.Chains.{chain, ChainTable, times, held}
 use Rattle.pg_decider.specs.Counted.{false_count}
-use Rattle.pg_decider.specs.Reached.{AreWithin, Reached, IsUnit}
+use Rattle.pg_decider.specs.Reached.{AreWithin, Reached}
 use Rattle.pg_decider.specs.Trail.{lit, TrailTable, reason}
 use Rattle.pg_decider.specs.Weigh.{occurs}
 

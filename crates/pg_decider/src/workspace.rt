@@ -8,12 +8,14 @@ ghost use Rattle.pg_decider.specs.Reached.{AreWithin};
 ghost use Rattle.pg_decider.specs.Tree.{Tree, IsTree};
 
 use crate::chains::Chains;
+use crate::leaf::{conflict_of, lean, shut};
 use crate::log::{TreeLog, TreeNode};
 use crate::search::{Branch, search};
 use crate::trail::Trail;
 use crate::verdict::Verdict;
+use crate::walk::walk;
 use crate::watches::Watches;
-use pg_region::{ClauseReader, Lit};
+use pg_region::{ClauseReader, Lit, Loaded, Region};
 use std::alloc::{AllocError, Global};
 use std::marker::Model;
 
@@ -23,6 +25,8 @@ pub struct Workspace {
     watches: Watches,
     trail: Trail,
     branches: Vec<Branch>,
+    needed: Vec<bool>,
+    list: Vec<u32>,
 }
 
 impl Model for Workspace {
@@ -34,10 +38,21 @@ impl Model for Workspace {
 
     ghost view = { λ w. record { atoms = w.trail.atoms; clauses = w.watches.chains.slots / 2; literals = w.trail.literals } };
 
-    ghost invariant = { λ w. IsWorkspace w.trail.atoms (length w.watches.chains.lists) w.watches.chains.slots (vec_capacity w.watches.slots) (vec_capacity w.branches) };
+    ghost invariant = { λ w. IsWorkspace w.trail.atoms (length w.watches.chains.lists) w.watches.chains.slots (vec_capacity w.watches.slots) (vec_capacity w.branches) (length w.needed.items) (length w.list.items) };
 }
 
 impl Workspace {
+    ghost use Rattle.std.specs.Prelude.{◌≡◌, ◌+◌, ◌-◌, ◌*◌, ◌≤◌, List, None, length, slice_index_or, IfOk, ⊤};
+    ghost use mathlib.Core.Option.{none};
+    ghost use Rattle.std.specs.Borrow.{follows_so, sem};
+    ghost use Rattle.pg_region.specs.Pieces.{total};
+    ghost use Rattle.pg_region.specs.Range.{listed, Fits};
+    ghost use Rattle.pg_decider.specs.Assignment.{on};
+    ghost use Rattle.pg_decider.specs.Leaf.{IsLog, IsLeaf, path_of};
+    ghost use Rattle.pg_decider.specs.Outcome.{IfClosed, IsOutcome, nodes_of};
+    ghost use Rattle.pg_decider.specs.contracts.workspace.Workspace.{the_row};
+    ghost use Rattle.pg_decider.specs.declared.log.TreeNode.TheVariants.{Leaf};
+
     /// A workspace for so many atoms and clauses. There is no memory for 2^31 atoms or clauses, or more.
     pub fn make(alloc: Global, atoms: u32, clauses: u32) -> Result<Workspace, AllocError>
         ensures { IfOk result (λ w. (w.atoms ≡ atoms) × (w.clauses ≡ clauses)) }
@@ -49,10 +64,14 @@ impl Workspace {
         let slots = Vec::with_capacity(alloc, 2 * clauses as usize)?;
         let trail = Trail::make(alloc, atoms)?;
         let branches = Vec::with_capacity(alloc, atoms as usize + 1)?;
+        let needed = vec![in alloc; false; 2 * atoms as usize + 3]?;
+        let list = vec![in alloc; 0; atoms as usize + 2]?;
         Ok(Workspace {
             watches: Watches { slots, chains },
             trail,
             branches,
+            needed,
+            list,
         })
     }
 
@@ -66,6 +85,7 @@ impl Workspace {
         requires clauses { length reader.old.clauses ≤ self.old.clauses }
         requires log { budget ≤ log.old.room }
         ensures outcome { IsOutcome reader.old.clauses result budget log.new.lines (on self.new.literals) }
+        ensures closed { IfClosed result (IsLog reader.old.clauses log.new.lines) }
         ensures looks { reader.new.looks ≤ reader.old.looks + (length reader.old.clauses + nodes_of result budget * (length reader.old.clauses + total reader.old.clauses)) }
         ensures reader { (reader.new.clauses ≡ reader.old.clauses) × (reader.new.atoms ≡ reader.old.atoms) }
         ensures made { (self.new.atoms ≡ self.old.atoms) × (self.new.clauses ≡ self.old.clauses) }
@@ -88,6 +108,34 @@ impl Workspace {
         ensures { result ≡ on self.now.literals (record { atom = atom; positive = true }) }
     {
         self.trail.is_true(Lit::of(atom, true))
+    }
+
+    /// Numbers of clauses that close the leaf with the number i of the log of a closed tree, from 1 on: each but the last adds a
+    /// literal that a later one needs, and the last is all false. Takes no memory.
+    pub fn leaf(&mut self, region: &Region, loaded: Loaded, log: &TreeLog, i: u32) -> &[u32]
+        requires fits { Fits loaded region.now.clauses }
+        requires atoms { loaded.atoms ≤ self.old.atoms }
+        requires clauses { length (listed region.now.clauses loaded.range) ≤ self.old.clauses }
+        requires log { IsLog (listed region.now.clauses loaded.range) log.now.lines }
+        requires node { (1 ≤ i) × (i ≤ length log.now.lines) }
+        requires leaf { slice_index_or log.now.lines (i - 1) Leaf ≡ Leaf }
+        ensures* made { sem 𝓛 (follows_so the_row the_row self.entry.ghost_name none (λ _ _. ⊤) (λ v. (v.atoms ≡ self.old.atoms) × (v.clauses ≡ self.old.clauses))) }
+        ensures leaf { IsLeaf (listed region.now.clauses loaded.range) (on (path_of log.now.lines (i - 1))) result.now }
+    {
+        let mut reader = ClauseReader::of(region, loaded);
+        walk(&mut self.trail, &mut self.branches, log, i - 1);
+        let path = self.trail.len();
+        shut(&mut self.watches, &mut reader, &mut self.trail);
+        let conflict = conflict_of(&mut reader, &self.trail);
+        let from = lean(
+            &mut reader,
+            &self.trail,
+            path,
+            conflict,
+            &mut self.needed,
+            &mut self.list,
+        );
+        &self.list[from..]
     }
 }
 
