@@ -10,7 +10,6 @@ use Rattle.pg_tables.proofs.Sinks.{Appended-then, Stopped-first, Stopped-later}
 use Rattle.pg_clauses.specs.declared.node.Made.{Made}
 use Rattle.pg_clauses.specs.Definitional.{yes, after, literal, clauses, both_node, either_node, implies_node}
 use Rattle.pg_clauses.specs.Made.{IsNumber, Fits, IsMade, Makes}
-use Rattle.pg_clauses.proofs.Numbers.{literal-number}
 
 -- x has the parts f and g, and a node over their literals
 pub record HasParts (n : ℕ) (x f g : Plain ℕ) (node : ℕ → Literal → Literal → List (List Literal)) : Type 0 where
@@ -41,15 +40,6 @@ module _ {T : Type 0} (number : T → ℕ) (n : ℕ) (h f g : Formula T) where
   unfolding with_atoms
   implies_parts is = rw (plain_implies is) (record { told = refl; then = refl; are = refl; fits = λ i. i })
 
--- the literal of what is negated is one that can be negated
-pub not_number : {T : Type 0} (number : T → ℕ) (n : ℕ) (h f : Formula T) (m : Made) (s t : SinkView) → h ≡ formula.Not f → Fits n (with_atoms number (plain h))
-    → IsMade s t (literal n (with_atoms number (plain f))) (after n (with_atoms number (plain f))) (clauses n (with_atoms number (plain f))) m → IsNumber m.literal.atom
-unfolding with_atoms
-not_number {T} number n h f m s t is fits made =
-    let e : plain h ≡ neg (plain f) = ap (λ (x : Formula T). plain x) (is ∙ sym (formula.rolls-Not f)) ∙ fold-roll-Formula T (Plain T) plain_layer (layer.Not f) in
-    let inner : Fits n (with_atoms number (plain f)) = subst (λ (x : Plain T). Fits n (with_atoms number x)) e fits in
-    subst (λ (l : Literal). IsNumber l.atom) (sym made.told) (literal-number n (with_atoms number (plain f)) inner)
-
 module _ (n : ℕ) (x f g : Plain ℕ) (node : ℕ → Literal → Literal → List (List Literal)) (parts : HasParts n x f g node) where
   pub first_stopped : (takes : List (List Literal) → Capacity → List Literal → Bool) (s t : SinkView) → Stopped takes s t (clauses n f) → Stopped takes s t (clauses n x)
   first_stopped takes s t h = subst (λ (cs : List (List Literal)). Stopped takes s t cs) (sym parts.are) (Stopped-first takes s t (clauses n f) _ h)
@@ -66,15 +56,9 @@ module _ (n : ℕ) (x f g : Plain ℕ) (node : ℕ → Literal → Literal → L
       → IsMade t u (literal (after n f) g) (after (after n f) g) (clauses (after n f) g) b
   second_made s t u a b one two = subst (λ (m : ℕ). IsMade t u (literal m g) (after m g) (clauses m g) b) one.then two
 
-  pub numbers : (s t u : SinkView) (a b : Made) → IsMade s t (literal n f) (after n f) (clauses n f) a → IsMade t u (literal a.next g) (after a.next g) (clauses a.next g) b
-      → Fits n x → IsNumber b.next × IsNumber a.literal.atom × IsNumber b.literal.atom
-  numbers s t u a b one two fits =
-      let second = second_made s t u a b one two in
-      let all = parts.fits fits in (
-        subst IsNumber (sym second.then) all.1.1,
-        subst (λ (l : Literal). IsNumber l.atom) (sym one.told) (literal-number n f all.0),
-        subst (λ (l : Literal). IsNumber l.atom) (sym second.told) (literal-number (after n f) g all.1.0),
-      )
+  pub number : (s t u : SinkView) (a b : Made) → IsMade s t (literal n f) (after n f) (clauses n f) a → IsMade t u (literal a.next g) (after a.next g) (clauses a.next g) b
+      → Fits n x → IsNumber b.next
+  number s t u a b one two fits = subst IsNumber (sym (second_made s t u a b one two).then) (parts.fits fits).1.1
 
   module _ (s t u v : SinkView) (a b : Made) (one : IsMade s t (literal n f) (after n f) (clauses n f) a) (two : IsMade t u (literal a.next g) (after a.next g) (clauses a.next g) b) where
     both_appended : Appended s u (clauses n f ++ clauses (after n f) g)

@@ -44,13 +44,3 @@ fits n (implies f g) from b few =
     let two = later (after n f) g in
     let right = fits (after n f) g (omega (arith, one, from)) (wider n (after n f) g one b.1) (omega (arith, two, few)) in
     (fits n f from b.0 (omega (arith, one, two, few)), (right, (omega (arith, one, two, from), omega (arith, few))))
-
--- and so does the formula's literal
-pub literal-number : (n : ℕ) (f : Plain ℕ) → Fits n f → IsNumber (literal n f).atom
-literal-number n top h = h
-literal-number n bottom h = h
-literal-number n (atom a) h = h
-literal-number n (neg f) h = literal-number n f h
-literal-number n (both f g) h = h.1.1
-literal-number n (either f g) h = h.1.1
-literal-number n (implies f g) h = h.1.1

@@ -3,9 +3,9 @@ use Rattle.std.proofs.Common.{◌≡◌, ℕ, ◌+◌, ◌<◌, ◌≤◌, Bool,
 use Rattle.std.proofs.lemmas.Bool.{lt-ltb, le-ltb, and_from}
 use Rattle.std.proofs.lemmas.List.Folds.{list_all-append}
 use Rattle.pg_assertion.specs.Formula.{Plain, top, bottom, atom, neg, both, either, implies, AllAtoms}
-use Rattle.pg_region.specs.Literal.{Literal}
+use Rattle.pg_region.specs.Literal.{Literal, negated}
 use Rattle.pg_views.specs.Formula.{true_in}
-use Rattle.pg_clauses.specs.Definitional.{negated, after, literal, clauses, both_node, either_node, implies_node}
+use Rattle.pg_clauses.specs.Definitional.{after, literal, clauses, both_node, either_node, implies_node}
 use Rattle.pg_clauses.specs.Truth.{literal_true, clause_true, all_true, DefinitionsTellTheTruth, DefinitionsCanBeMet}
 use Rattle.pg_clauses.proofs.Bools.{and-parts, is_both, is_either, is_implied, both_tells, either_tells, implied_tells, both_met, either_met, implied_met}
 use Rattle.pg_clauses.proofs.Numbers.{later}

@@ -1,17 +1,14 @@
 -- The definitional clauses of a formula whose atoms are numbers. Each node but atoms and negations takes the next new atom, and its
 -- clauses say that this atom is true just where the node is.
-use Rattle.std.specs.Prelude.{ℕ, ◌+◌, true, false, not, List, [], ◌∷◌, ◌++◌}
+use Rattle.std.specs.Prelude.{ℕ, ◌+◌, true, false, List, [], ◌∷◌, ◌++◌}
 use Rattle.pg_assertion.specs.Formula.{Plain, top, bottom, atom, neg, both, either, implies}
-use Rattle.pg_region.specs.Literal.{Literal}
+use Rattle.pg_region.specs.Literal.{Literal, negated}
 
 abbrev pub yes : ℕ → Literal
 yes n = record { atom = n; positive = true }
 
 abbrev pub no : ℕ → Literal
 no n = record { atom = n; positive = false }
-
-abbrev pub negated : Literal → Literal
-negated l = record { atom = l.atom; positive = not l.positive }
 
 -- the next new atom behind those that the formula takes, from n on: the left part before the right one, and both before the node
 abbrev pub after : ℕ → Plain ℕ → ℕ

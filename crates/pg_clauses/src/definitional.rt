@@ -6,7 +6,7 @@ ghost use Rattle.pg_clauses.specs.Definitional.{after, literal, clauses};
 ghost use Rattle.pg_clauses.specs.Made.{AreBelow, Fits, Makes, Clausifies};
 
 use crate::fresh::Fresh;
-use crate::node::{Made, conjunction, constant, disjunction, implication, negated};
+use crate::node::{Made, conjunction, constant, disjunction, implication};
 use pg_assertion::{Formula, Numbering, Side};
 use pg_region::{ClauseSink, Lit};
 
@@ -55,7 +55,7 @@ fn defined<T, M: Numbering<T>, S: ClauseSink>(
         Formula::Not(f) => {
             let made = defined(f.get(), numbers, side, next, into)?;
             Ok(Made {
-                literal: negated(made.literal),
+                literal: made.literal.negated(),
                 next: made.next,
             })
         }

@@ -3,7 +3,7 @@
 ghost use Rattle.std.specs.Prelude.{◌≡◌, ◌+◌, ◌<◌, ◌≤◌, ◌^◌, ◌∷◌, []};
 ghost use Rattle.pg_region.specs.Literal.{Literal};
 ghost use Rattle.pg_region.specs.Sink.{Emitted};
-ghost use Rattle.pg_clauses.specs.Definitional.{yes, negated, both_node, either_node, implies_node};
+ghost use Rattle.pg_clauses.specs.Definitional.{yes, both_node, either_node, implies_node};
 ghost use Rattle.pg_clauses.specs.Made.{IsNumber, Makes};
 
 use pg_region::{ClauseSink, Lit};
@@ -28,14 +28,6 @@ impl Made {
     }
 }
 
-/// The literal that says the opposite.
-pub fn negated(literal: Lit) -> Lit
-    requires { IsNumber literal.atom }
-    ensures { result ≡ negated literal }
-{
-    Lit::of(literal.atom(), !literal.positive())
-}
-
 /// A constant: the atom `d` is true, or false.
 pub fn constant<S: ClauseSink>(d: u32, truth: bool, into: &mut S) -> Result<Made, S::Fault>
     requires { IsNumber d }
@@ -47,31 +39,31 @@ pub fn constant<S: ClauseSink>(d: u32, truth: bool, into: &mut S) -> Result<Made
 
 /// The atom `d` for `a & b`.
 pub fn conjunction<S: ClauseSink>(d: u32, a: Lit, b: Lit, into: &mut S) -> Result<Made, S::Fault>
-    requires { IsNumber d × IsNumber a.atom × IsNumber b.atom }
+    requires { IsNumber d }
     ensures { Makes S.takes result (S.view into.old) (S.view into.new) (yes d) (d + 1) (both_node d a b) }
 {
     let (yes, no) = (Lit::of(d, true), Lit::of(d, false));
-    three(&[no, a], &[no, b], &[yes, negated(a), negated(b)], into)?;
+    three(&[no, a], &[no, b], &[yes, a.negated(), b.negated()], into)?;
     Ok(Made::atom(d))
 }
 
 /// The atom `d` for `a | b`.
 pub fn disjunction<S: ClauseSink>(d: u32, a: Lit, b: Lit, into: &mut S) -> Result<Made, S::Fault>
-    requires { IsNumber d × IsNumber a.atom × IsNumber b.atom }
+    requires { IsNumber d }
     ensures { Makes S.takes result (S.view into.old) (S.view into.new) (yes d) (d + 1) (either_node d a b) }
 {
     let (yes, no) = (Lit::of(d, true), Lit::of(d, false));
-    three(&[no, a, b], &[yes, negated(a)], &[yes, negated(b)], into)?;
+    three(&[no, a, b], &[yes, a.negated()], &[yes, b.negated()], into)?;
     Ok(Made::atom(d))
 }
 
 /// The atom `d` for `a -> b`.
 pub fn implication<S: ClauseSink>(d: u32, a: Lit, b: Lit, into: &mut S) -> Result<Made, S::Fault>
-    requires { IsNumber d × IsNumber a.atom × IsNumber b.atom }
+    requires { IsNumber d }
     ensures { Makes S.takes result (S.view into.old) (S.view into.new) (yes d) (d + 1) (implies_node d a b) }
 {
     let (yes, no) = (Lit::of(d, true), Lit::of(d, false));
-    three(&[no, negated(a), b], &[yes, a], &[yes, negated(b)], into)?;
+    three(&[no, a.negated(), b], &[yes, a], &[yes, b.negated()], into)?;
     Ok(Made::atom(d))
 }
 
