@@ -18,7 +18,8 @@ AreTrueOfSteps p rules =
     (s : State) (e : Event) (step : Step) (next : State)
     → IsProgram p → IsWellFormed p s → IsStepThrough p s e step next → AllTrue (valuation p e s next) (rules step)
 
--- So are the access rules, where no more scalars are declared than the limits of names allow: their clauses speak of no others.
+-- The access rules are, where no more scalars are declared than a table of names may have: what an expression says is given over the
+-- values of so many.
 abbrev pub AccessRulesAreTrue : Type 0
 AccessRulesAreTrue = (p : ProgramTable) → length p.names.scalars ≤ most_scalars → AreTrueOfSteps p (access p)
 
