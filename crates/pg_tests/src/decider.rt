@@ -321,6 +321,44 @@ fn small_sets_of_clauses_are_decided(rt: HostRuntime) -> Result<(), Fail> {
     Ok(())
 }
 
+/// How many clauses close each leaf of a closed tree, and 0 for each node that splits.
+fn leaves(alloc: Global, region: &Region, atoms: u32, budget: u32) -> Result<Vec<usize>, Fail>
+    requires over { All (All (λ l. l.atom ≤ atoms)) region.now.clauses }
+{
+    if atoms >= 2147483648 || budget < 1 {
+        return Err(Fail::new("a case has other limits"));
+    }
+    let loaded = whole(region, atoms);
+    let mut workspace = Workspace::make(alloc, atoms, region.clauses())?;
+    let mut log = TreeLog::make(alloc, budget)?;
+    let mut reader = ClauseReader::of(region, loaded);
+    let mut lengths = Vec::new(alloc);
+    if let Verdict::Closed(_) = workspace.decide(&mut reader, budget, &mut log) {
+        for i in 1..=log.len() {
+            lengths.push(match log.node(i) {
+                TreeNode::Split(_) => 0,
+                TreeNode::Leaf => workspace.leaf(region, loaded, &log, i).len(),
+            })?;
+        }
+    }
+    Ok(lengths)
+}
+
+/// The first leaf needs two clauses, and the second four: `1`; `not 1, 2, 3`; and the last two.
+#[test]
+fn leaves_are_closed_by_few_clauses(rt: HostRuntime) -> Result<(), Fail> {
+    let mut region = Region::make(rt.alloc(), 64, 16)?;
+    for numbers in CASES[5].clauses {
+        add(rt.alloc(), &mut region, 6, numbers)?;
+    }
+    let lengths = leaves(rt.alloc(), &region, 6, 3)?;
+    agree(lengths.len(), 3, b"nodes")?;
+    for (found, wanted) in lengths.iter().zip(&[0usize, 2, 4]) {
+        agree(*found, *wanted, b"clauses of a leaf")?;
+    }
+    Ok(())
+}
+
 /// The clauses `not 2, 1`; `not 3, 2`; and so on up to a last atom, and the last atom: read backwards all atoms follow.
 fn chain(alloc: Global, atoms: u32) -> Result<Region, Fail>
     ensures { IfOk result (λ r. All (All (λ l. l.atom ≤ atoms)) r.clauses) }
