@@ -7,9 +7,9 @@ use Rattle.pg_tables.specs.Bound.{AreWithin, AreFew, largest}
 use Rattle.pg_tables.specs.Steps.{IsStepOf}
 use Rattle.pg_rules_access.specs.Access.{access}
 
--- The most clauses of a step, and the most literals in all of them together, in either version of the language. A cas has them,
--- of four threads in the largest layout, where both of its expressions and those of its bracket read four scalars, and the
--- bracket assigns each scalar but the register that the cas reads into.
+-- The most clauses of a step, and the most literals in all of them together, in either version of the language: those of a cas of
+-- one of four threads in the largest layout, counted as if each expression read four scalars and the bracket assigned each scalar
+-- but the register that the cas reads into. A step of a text has fewer: its bracket has at most four assignments.
 abbrev pub most_access_rules_1 : ℕ
 most_access_rules_1 = 12860
 

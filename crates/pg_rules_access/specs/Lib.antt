@@ -5,4 +5,5 @@ pub mod Load
 pub mod Fence
 pub mod Cas
 pub mod Access
+pub mod Parts
 pub mod Bound

@@ -5,6 +5,7 @@ ghost use Rattle.pg_assertion.specs.declared.atom.ViewAtom.{ViewAtom};
 ghost use Rattle.pg_assertion.specs.declared.atom.ViewAtom.TheVariants.{Last, Read, Then as SeenThen, Fenced};
 ghost use Rattle.pg_assertion.specs.Layout.{IsAtom, IsThreadNumber};
 ghost use Rattle.pg_tables.specs.Shapes.{before, after};
+ghost use Rattle.pg_rules_access.specs.Parts.{cas_views};
 ghost use Rattle.pg_rules_access.specs.Cas.{if_stored, cas_scalar, own_read, cas_read, own_then, cas_then, cas_view, own_fenced, cas_fenced, cas};
 
 use crate::load::{Load, ReadThen};
@@ -79,11 +80,37 @@ impl<'a> Rows<ViewAtom> for Cas<'a> {
             ViewAtom::Then { t, x, v, y, w } => {
                 CasThen { cas: *self }.offer_at(((((t, x), v), y), w), setting, into)
             }
-            ViewAtom::Newest { t, x } | ViewAtom::Ordered { t, x } => {
-                CasView { cas: *self, t, x }.offer_at(i, setting, into)
+            _ => CasViews { cas: *self }.offer_at(i, setting, into),
+        }
+    }
+}
+
+/// What is newest, ordered or fenced.
+#[derive(Drop)]
+struct CasViews<'a> {
+    cas: Cas<'a>,
+}
+
+impl<'a> Rows<ViewAtom> for CasViews<'a> {
+    ghost rows = { λ l c i. cas_views c.cas.names.now c.cas.thread c.cas.location i };
+
+    ghost fits = { λ s c i. (s.case ≡ None) × IsAtom s.layout i × (s.layout.locations ≡ length c.cas.names.now.locations) × (c.cas.location < s.layout.locations) };
+
+    fn offer_at<S: ClauseSink>(
+        &self,
+        i: ViewAtom,
+        setting: &Setting,
+        into: &mut S,
+    ) -> Result<(), S::Fault> {
+        match i {
+            ViewAtom::Newest { t, x } | ViewAtom::Ordered { t, x } => CasView {
+                cas: self.cas,
+                t,
+                x,
             }
+            .offer_at(i, setting, into),
             ViewAtom::Fenced { t, x } => {
-                CasFenced { cas: *self }.offer_at((t, x), setting, into)
+                CasFenced { cas: self.cas }.offer_at((t, x), setting, into)
             }
             _ => frame(i).offer_at((), setting, into),
         }
@@ -257,15 +284,29 @@ impl<'a> Rows<((((u8, u8), u8), u8), u8)> for CasThen<'a> {
         let ((((t, x), v), y), w) = i;
         if t == self.cas.thread {
             OwnThen {
-                same: x == y && v == w,
+                same: is_same((x, v), (y, w)),
             }
             .offer_at(((((self.cas.thread, x), v), y), w), setting, into)
         } else {
             self.cas
-                .if_stored(x == self.cas.location || y == self.cas.location)
+                .if_stored(is_either(x, y, self.cas.location))
                 .offer_at(ViewAtom::Then { t, x, v, y, w }, setting, into)
         }
     }
+}
+
+/// Whether one of two locations is that of the cas.
+fn is_either(x: u8, y: u8, location: u8) -> bool
+    ensures { result ≡ (x == location || y == location) }
+{
+    x == location || y == location
+}
+
+/// Whether two reads are of the same value of the same location.
+fn is_same(first: (u8, u8), second: (u8, u8)) -> bool
+    ensures { result ≡ (first.0 == second.0 && first.1 == second.1) }
+{
+    first.0 == second.0 && first.1 == second.1
 }
 
 /// What the acting thread may read, and then read: last values where the cas succeeds, and less than before where it fails.

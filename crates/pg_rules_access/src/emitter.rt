@@ -94,10 +94,8 @@ fn offer_act<S: ClauseSink>(
         } => offer_cas(context, *target, *location, expected, desired, layout, into),
         Act::Mfence => offer_mfence(context, layout, into),
         Act::Sfence => offer_sfence(context, layout, into),
-        Act::Flush { .. } => offer_frames(context, layout, into),
-        Act::Flushopt { .. } => offer_frames(context, layout, into),
-        Act::If { test, .. } => offer_test(context, test, layout, into),
-        Act::While { test, .. } => offer_test(context, test, layout, into),
+        Act::Flush { .. } | Act::Flushopt { .. } => offer_frames(context, layout, into),
+        Act::If { test, .. } | Act::While { test, .. } => offer_test(context, test, layout, into),
     }
 }
 

@@ -7,6 +7,7 @@ ghost use Rattle.pg_assertion.specs.declared.step_atom.StepAtom.{StepAtom};
 ghost use Rattle.pg_assertion.specs.Layout.{IsAtom};
 ghost use Rattle.pg_region.specs.Sink.{Emitted};
 ghost use Rattle.pg_tables.specs.Clause.{written};
+ghost use Rattle.pg_rules_access.specs.Parts.{store_views};
 ghost use Rattle.pg_rules_access.specs.Store.{store_last, store_read, store_then, store_newest, store_ordered, store_fenced, store, store_twice, twice};
 ghost use Rattle.pg_tables.specs.Steps.{same_line};
 
@@ -50,14 +51,37 @@ impl<'a> Rows<ViewAtom> for Store<'a> {
             ViewAtom::Then { t, x, v, y, w } => {
                 StoreThen { store: *self }.offer_at(((((t, x), v), y), w), setting, into)
             }
+            _ => StoreViews { store: *self }.offer_at(i, setting, into),
+        }
+    }
+}
+
+/// What is newest, ordered or fenced.
+#[derive(Drop)]
+struct StoreViews<'a> {
+    store: Store<'a>,
+}
+
+impl<'a> Rows<ViewAtom> for StoreViews<'a> {
+    ghost rows = { λ l c i. store_views c.store.names.now c.store.thread c.store.location i };
+
+    ghost fits = { λ s c i. IsAtom s.layout i × (s.layout.locations ≡ length c.store.names.now.locations) × (c.store.location < s.layout.locations) };
+
+    fn offer_at<S: ClauseSink>(
+        &self,
+        i: ViewAtom,
+        setting: &Setting,
+        into: &mut S,
+    ) -> Result<(), S::Fault> {
+        match i {
             ViewAtom::Newest { t, x } => {
-                StoreNewest { store: *self }.offer_at((t, x), setting, into)
+                StoreNewest { store: self.store }.offer_at((t, x), setting, into)
             }
             ViewAtom::Ordered { t, x } => {
-                StoreOrdered { store: *self }.offer_at((t, x), setting, into)
+                StoreOrdered { store: self.store }.offer_at((t, x), setting, into)
             }
             ViewAtom::Fenced { t, x } => {
-                StoreFenced { store: *self }.offer_at((t, x), setting, into)
+                StoreFenced { store: self.store }.offer_at((t, x), setting, into)
             }
             _ => frame(i).offer_at((), setting, into),
         }
@@ -230,20 +254,42 @@ impl Rows<((((u8, u8), u8), u8), u8)> for OtherThen {
     ) -> Result<(), S::Fault> {
         let ((((t, x), v), y), w) = i;
         let atom = ViewAtom::Then { t, x, v, y, w };
-        let first = before(ViewAtom::Read { t, x, v });
         let (is, was) = (after(atom), before(atom));
         match (x == self.location, y == self.location) {
-            (true, true) => store_twice(is, was, first, v, w).offer_at((), setting, into),
+            (true, true) => OtherTwice.offer_at(i, setting, into),
             (true, false) => {
                 let last = before(ViewAtom::Last { x: y, v: w });
                 gains_both(is, was, StepAtom::Value { v }, last).offer_at((), setting, into)
             }
             (false, true) => {
+                let first = before(ViewAtom::Read { t, x, v });
                 let to = StepAtom::Value { v: w };
                 gains_both(is, was, first, to).offer_at((), setting, into)
             }
             (false, false) => frame(atom).offer_at((), setting, into),
         }
+    }
+}
+
+/// Another thread may read the stored value first, second or twice.
+#[derive(Drop)]
+struct OtherTwice;
+
+impl Rows<((((u8, u8), u8), u8), u8)> for OtherTwice {
+    ghost rows = { λ l c i. store_then false true true (i.0.0.1 == i.1) i.0.0.0.0 i.0.0.0.1 i.0.0.1 i.0.1 i.1 };
+
+    ghost fits = { λ s c i. IsAtom s.layout (SeenThen i.0.0.0.0 i.0.0.0.1 i.0.0.1 i.0.1 i.1) };
+
+    fn offer_at<S: ClauseSink>(
+        &self,
+        i: ((((u8, u8), u8), u8), u8),
+        setting: &Setting,
+        into: &mut S,
+    ) -> Result<(), S::Fault> {
+        let ((((t, x), v), y), w) = i;
+        let atom = ViewAtom::Then { t, x, v, y, w };
+        let first = before(ViewAtom::Read { t, x, v });
+        store_twice(after(atom), before(atom), first, v, w).offer_at((), setting, into)
     }
 }
 

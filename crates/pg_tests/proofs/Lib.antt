@@ -1,1 +1,2 @@
 mod Atoms
+mod Steps

@@ -56,7 +56,7 @@ N(1,y) N(2,x) O(1,x) O(1,y) O(2,x) F(1,x) F(1,y) F(2,x)";
 static STATES: [(usize, &str); 3] = [(2, WRITTEN), (3, FLUSHED), (4, COMMITTED)];
 
 /// The statements of a thread over these names.
-fn thread(alloc: Global, names: &Names, text: &[u8]) -> Result<Vec<Stmt>, Fail>
+pub fn thread(alloc: Global, names: &Names, text: &[u8]) -> Result<Vec<Stmt>, Fail>
     ensures { IfOk result (λ ss. IsThread names.now ss.items) }
 {
     let mut lexer = lexer_of(text)?;
