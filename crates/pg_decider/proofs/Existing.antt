@@ -21,7 +21,7 @@ use Rattle.pg_decider.proofs.Literals.{same-is, same-refl, added-cases, same_par
 use Rattle.pg_decider.proofs.Splits.{split-picks, all-met}
 
 -- tests of what Forces and AreFalse say
-abbrev others_false : Assignment → Literal → List Literal → Bool
+abbrev pub others_false : Assignment → Literal → List Literal → Bool
 others_false s l [] = true
 others_false s l (m ∷ c) = (same m l || s (negated m)) && others_false s l c
 
@@ -41,7 +41,7 @@ others-from s l (m ∷ c) h = and_from (same m l || s (negated m)) (others_false
     go true e = or_left (same m l) (s (negated m)) e
     go false e = or_right (same m l) (s (negated m)) (h m (or_left (same m m) (on c m) (same-refl m)) e)
 
-others-to : (s : Literal → Bool) (l : Literal) (c : List Literal) → others_false s l c ≡ true → (m : Literal) → on c m ≡ true → same m l ≡ false → s (negated m) ≡ true
+pub others-to : (s : Literal → Bool) (l : Literal) (c : List Literal) → others_false s l c ≡ true → (m : Literal) → on c m ≡ true → same m l ≡ false → s (negated m) ≡ true
 others-to s l [] h m i ne = absurd (both_ways false refl i)
 others-to s l (k ∷ c) h m i ne =
     let p = and_parts (same k l || s (negated k)) (others_false s l c) h in

@@ -18,3 +18,4 @@ pub mod Sound
 pub mod Standing
 pub mod Leaning
 pub mod Walked
+pub mod Least

@@ -4,7 +4,7 @@ ghost use Rattle.std.specs.Prelude.{◌≡◌, ℕ, Bool, List, ◌+◌, ◌-◌
 ghost use Rattle.pg_region.specs.Literal.{Literal, negated, same};
 ghost use Rattle.pg_region.specs.Region.{clause_at};
 ghost use Rattle.pg_decider.specs.Assignment.{on};
-ghost use Rattle.pg_decider.specs.Noted.{noted, better, or_first, picked};
+ghost use Rattle.pg_decider.specs.Noted.{noted, better, or_first, picked, least, AreLong};
 ghost use Rattle.pg_decider.specs.Reached.{AreWithin};
 ghost use Rattle.pg_decider.specs.Split.{any_true, any_false, first_free, free_count, split_literal};
 
@@ -145,9 +145,21 @@ fn pick(found: Found) -> Option<Lit>
     }
 }
 
-/// The literal to split at, with one look at each clause.
+/// Whether no later clause is better: one without a true literal has two literals without a value, once all is propagated.
+fn is_least(found: &Found) -> bool
+    ensures { result ≡ least found.now }
+{
+    match found {
+        Found::Touched(count, _) => *count <= 2,
+        _ => false,
+    }
+}
+
+/// The split literal, with one look at each clause up to the one that has it or, where no clause has as few literals without a value
+/// as one can have, at all of them.
 pub fn split(reader: &mut ClauseReader, trail: &Trail) -> Option<Lit>
-    requires { AreWithin trail.now.atoms reader.old.clauses }
+    requires over { AreWithin trail.now.atoms reader.old.clauses }
+    requires long { AreLong (on trail.now.literals) reader.old.clauses }
     ensures reader { (reader.new.clauses ≡ reader.old.clauses) × (reader.new.atoms ≡ reader.old.atoms) }
     ensures looks { reader.new.looks ≤ reader.old.looks + length reader.old.clauses }
     ensures exact { result ≡ split_literal (on trail.now.literals) reader.old.clauses }
@@ -157,6 +169,9 @@ pub fn split(reader: &mut ClauseReader, trail: &Trail) -> Option<Lit>
     'clauses: for k in 0..count {
         let clause = reader.clause(k + 1);
         found = note(found, clause, trail);
+        if is_least(&found) {
+            return pick(found);
+        }
     }
     pick(found)
 }

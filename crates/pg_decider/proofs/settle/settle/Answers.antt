@@ -5,6 +5,7 @@ use Rattle.pg_decider.specs.Assignment.{on}
 use Rattle.pg_decider.specs.Split.{split_literal}
 use Rattle.pg_decider.proofs.Trees.{node-open, node-shut, node-splits, node-met}
 use Rattle.pg_decider.proofs.Splits.{split-picks}
+use Rattle.pg_decider.proofs.Least.{closed-long}
 use Rattle.pg_decider.proofs.settle.settle.Goals as goal
 
 pub returns-then-not-propagate-clause-node : goal.returns-then-not-propagate-clause-node
@@ -33,3 +34,9 @@ returns-in-Some-clause-unset c =
     split-picks v (λ l. (l.atom ≤ c.propagate.new.trail.atoms) × (v l ≡ false) × (v (negated l) ≡ false)) c.propagate.new.reader.clauses c.in-Some.literal
     (sym c.in-Some.is ∙ c.split.ensures.exact)
     (λ k m lt h a b. (c.propagate.ensures.shape.over k m (subst (λ (cs : List (List Literal)). on (clause_at cs k) m ≡ true) c.propagate.ensures.reader.0 h), a, b))
+
+pub split-requires-clause-long : goal.split-requires-clause-long
+split-requires-clause-long c =
+    let p = c.propagate.ensures in
+    let ok = c.if-not-propagate.false in
+    rw p.reader.0 (closed-long c.args.reader.now.clauses (on c.propagate.new.trail.literals) (p.closed ok) (p.calm ok))
