@@ -25,6 +25,8 @@ mod names;
 #[cfg(test)]
 mod numbering;
 #[cfg(test)]
+mod obligations;
+#[cfg(test)]
 mod outlines;
 #[cfg(test)]
 mod paths;
