@@ -1,0 +1,4 @@
+//! The clauses of obligations.
+#![tactic(auto)]
+
+mod top;
