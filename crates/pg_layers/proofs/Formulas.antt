@@ -109,9 +109,9 @@ placed-below l side n f over new =
 
 -- ---- clauses: a formula of n nodes has fewer than 2 n, and at most 4 n - 3 literals in them
 
-total-append : (xs ys : List (List Literal)) → total (xs ++ ys) ≡ total xs + total ys
-total-append [] ys = refl
-total-append (x ∷ xs) ys = let rest = total-append xs ys in omega (arith, rest)
+pub total-append : (xs ys : List (List Literal)) → total (xs ++ ys) ≡ total xs + total ys
+total-append [] ys = omega arith
+total-append (x ∷ xs) ys = ap (λ (n : ℕ). length x + n) (total-append xs ys) ∙ omega arith
 
 pub clauses-few : (n : ℕ) (f : Plain ℕ) → length (clauses n f) < 2 * nodes f
 clauses-few n top = omega arith
@@ -142,3 +142,6 @@ literals-few n (either f g) =
 literals-few n (implies f g) =
     let node = implies_node (after (after n f) g) (literal n f) (literal (after n f) g) in
     omega (arith, literals-few n f, literals-few (after n f) g, total-append (clauses n f) (clauses (after n f) g ++ node), total-append (clauses (after n f) g) node)
+
+pub after-small : (l : Sizes) (side : Side) (n : ℕ) (f : Plain ViewAtom) → IsPart l f → n + most_expansion_nodes ≤ 2 ^ 31 → after n (placed l side f) ≤ 2 ^ 31
+after-small l side n f part few = let t = after-few l side n f part in omega (arith, t, few)

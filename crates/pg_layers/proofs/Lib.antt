@@ -1,1 +1,16 @@
 pub mod Formulas
+pub mod Over
+pub mod OverAxioms
+pub mod OverPersist
+pub mod OverAccess
+pub mod Below
+pub mod Decides
+pub mod Members
+pub mod Parts
+pub mod Law
+pub mod Tops
+pub mod Given
+pub mod Sizes
+pub mod Laying
+pub mod Loads
+pub mod Greatest

@@ -35,8 +35,8 @@ module _ (l : Sizes) where
   one (x ∷ c) h = All-cons Atom x c h.0 (one c h.1)
 
   pub written_out : {cs : List (List StepLiteral)} → EachOf l cs → IsOver l cs
-  written_out {[]} h = record { are = All-nil (AreStepAtoms l) }
-  written_out {c ∷ cs} h = record { are = All-cons (AreStepAtoms l) c cs (one c h.0) (written_out {cs} h.1).are }
+  written_out {cs = []} h = record { are = All-nil (AreStepAtoms l) }
+  written_out {cs = c ∷ cs} h = record { are = All-cons (AreStepAtoms l) c cs (one c h.0) (written_out {cs = cs} h.1).are }
 
   pub over-none : IsOver l []
   over-none = record { are = All-nil (AreStepAtoms l) }
@@ -84,21 +84,21 @@ module _ (l : Sizes) where
   pub over-exactly_one : (a : ℕ → StepAtom) → ((v : ℕ) → v < l.domain → IsStepAtom l (a v)) → IsOver l (exactly_one l a)
   over-exactly_one a h =
       over-append (over-clause (some-atoms l a 0 l.domain (λ v o. h v (omega (arith, o.to)))))
-      (over-values (λ v o. over-values (λ w p. over-when _ (written_out ((h v (omega (arith, o.to)), h w (omega (arith, p.to)), tt), tt)))))
+      (over-values (λ v o. over-values (λ w p. over-when _ (written_out ((h v (omega (arith, o.to)), (h w (omega (arith, p.to)), tt)), tt)))))
 
   -- ---- shapes
 
   pub over-frame : {a : ViewAtom} → IsAtom l a → IsOver l (frame a)
-  over-frame h = written_out ((h, h, tt), (h, h, tt), tt)
+  over-frame h = written_out ((h, (h, tt)), ((h, (h, tt)), tt))
 
   pub over-becomes : {a b : StepAtom} → IsStepAtom l a → IsStepAtom l b → IsOver l (becomes a b)
-  over-becomes h k = written_out ((h, k, tt), (k, h, tt), tt)
+  over-becomes h k = written_out ((h, (k, tt)), ((k, (h, tt)), tt))
 
   pub over-becomes_both : {a b c : StepAtom} → IsStepAtom l a → IsStepAtom l b → IsStepAtom l c → IsOver l (becomes_both a b c)
-  over-becomes_both h k m = written_out ((h, k, tt), (h, m, tt), (k, m, h, tt), tt)
+  over-becomes_both h k m = written_out ((h, (k, tt)), ((h, (m, tt)), ((k, (m, (h, tt))), tt)))
 
   pub over-gains : {a old b : StepAtom} → IsStepAtom l a → IsStepAtom l old → IsStepAtom l b → IsOver l (gains a old b)
-  over-gains h k m = written_out ((h, k, m, tt), (k, h, tt), (m, h, tt), tt)
+  over-gains h k m = written_out ((h, (k, (m, tt))), ((k, (h, tt)), ((m, (h, tt)), tt)))
 
   pub over-gains_both : {a old b c : StepAtom} → IsStepAtom l a → IsStepAtom l old → IsStepAtom l b → IsStepAtom l c → IsOver l (gains_both a old b c)
-  over-gains_both h k m n = written_out ((h, k, m, tt), (h, k, n, tt), (k, h, tt), (m, n, h, tt), tt)
+  over-gains_both h k m n = written_out ((h, (k, (m, tt))), ((h, (k, (n, tt))), ((k, (h, tt)), ((m, (n, (h, tt))), tt))))

@@ -1,5 +1,5 @@
 -- The access rules of a step are over its layout.
-use Rattle.std.proofs.Common.{◌≡◌, ℕ, suc, zero, ◌+◌, ◌<◌, ◌≤◌, ◌==◌, ◌&&◌, ◌||◌, not, Bool, true, false, List, [], ◌∷◌, ◌++◌, Option, Some, None, map, length, refl, sym, subst, arith}
+use Rattle.std.proofs.Common.{◌≡◌, ℕ, suc, zero, ◌+◌, ◌<◌, ◌≤◌, ◌==◌, ◌&&◌, ◌||◌, not, Bool, true, false, List, [], ◌∷◌, ◌++◌, Option, Some, None, map, length, cond, refl, sym, subst, arith}
 use Rattle.std.specs.Prelude.{replicate, slice_set}
 use Rattle.std.specs.List.{All}
 use Rattle.std.proofs.lemmas.List.Elements.{All-nil, All-cons, All-head, All-tail, All-push, All-set}
@@ -25,24 +25,24 @@ use Rattle.pg_program.specs.Expr.{reads, value, value_step, test_holds}
 use Rattle.pg_program.specs.Limits.{most_scalars}
 use Rattle.pg_program.specs.NameTable.{NameTable}
 use Rattle.pg_program.specs.Program.{ProgramTable, IsProgram, stmt_at}
-use Rattle.pg_program.specs.Words.{is_in}
-use Rattle.pg_program.proofs.ProgramLemmas.{has_values}
+use Rattle.pg_program.specs.Words.{is_in, outside_in, bracket_scalars, locations_in}
+use Rattle.pg_program.proofs.ExprLemmas.{All-front, All-behind}
+use Rattle.pg_program.proofs.ProgramLemmas.{has_values, stmt_of}
 use Rattle.pg_machine.proofs.Uses.{get-below}
 use Rattle.pg_tables.specs.declared.clause.StepLiteral.{StepLiteral}
 use Rattle.pg_tables.specs.declared.clause.Case.TheVariants.{Succeeds, Fails}
-use Rattle.pg_tables.specs.Clause.{AreStepAtoms, implies}
+use Rattle.pg_tables.specs.Clause.{AreStepAtoms, implies, yes, no}
 use Rattle.pg_tables.specs.Steps.{IsStepOf, same_line}
-use Rattle.pg_tables.specs.Shapes.{frame}
-use Rattle.pg_tables.specs.Table.{IsOneOf}
+use Rattle.pg_tables.specs.Shapes.{before, after, only_where, frame, becomes}
+use Rattle.pg_tables.specs.Table.{IsOneOf, under}
 use Rattle.pg_rules_access.specs.Atoms.{scalar_rows, access_rows}
-use Rattle.pg_rules_access.specs.Values.{per_tuple, in_order, tuples, value_rules, expects_last, says_test, taken, test_rules, bracket_side, assign_rules, bracket_rules, AreAssigns}
+use Rattle.pg_rules_access.specs.Values.{per_tuple, in_order, tuples, value_rules, expects_last, says_test, taken, test_rules, bracket_side, assign_rules, bracket_rules}
 use Rattle.pg_rules_access.specs.Store.{store, store_last, store_read, store_then, store_newest, store_ordered, store_fenced}
 use Rattle.pg_rules_access.specs.Load.{assign, assign_scalar, load, load_scalar, load_read, load_then, load_view, read_then}
 use Rattle.pg_rules_access.specs.Fence.{mfence, sfence, fence_loses, fence_view}
 use Rattle.pg_rules_access.specs.Cas.{cas, if_stored, cas_scalar, own_read, cas_read, own_then, cas_then, cas_view, own_fenced, cas_fenced}
-use Rattle.pg_rules_access.specs.Access.{IsActOver, IsStmtOver, act_values, act_row, rules, rules_of, access}
+use Rattle.pg_rules_access.specs.Access.{act_values, act_row, rules, rules_of, access}
 use Rattle.pg_rules_access.proofs.TupleLists.{said_atoms, in_order_known, zeros_below}
-use Rattle.pg_rules_access.proofs.StmtOver.{stmt_over}
 use Rattle.pg_layers.proofs.Over.{IsOver, written_out, over-none, over-clause, over-append, over-when, over-under, over-threads, over-locations, over-values, over-scalars, over-exactly_one, over-frame, over-becomes, over-becomes_both, over-gains, over-gains_both}
 use Rattle.pg_layers.proofs.OverAxioms.{is_thread, is_below}
 
@@ -117,7 +117,7 @@ module _ (l : Sizes) where
     test_over : (test : Cond) (branch : Branch) → IsOver l (test_rules l test branch)
     test_over test branch = over-append l (tuples_over _ (says_test l test) _ (λ values below. said (test_holds values l.domain test))) (on branch)
       where
-        said : (b : Bool) → IsStepAtom l (if b then record { atom = Taken; positive = true } else record { atom = Taken; positive = false }).atom
+        said : (b : Bool) → IsStepAtom l (cond b (yes Taken) (no Taken)).atom
         said true = tt
         said false = tt
 
@@ -126,10 +126,13 @@ module _ (l : Sizes) where
         on No = written_out l ((tt, tt), tt)
         on Plain = over-none l
 
-    bracket_over : (names : NameTable) (aux : List AuxAssign) → AreAssigns l aux → IsOver l (bracket_rules l names aux)
+    bracket_over : (names : NameTable) (aux : List AuxAssign) → All (λ r. r < l.scalars) (bracket_scalars aux) → IsOver l (bracket_rules l names aux)
     bracket_over names [] h = over-none l
     bracket_over names (a ∷ rest) h =
-        over-append l (tuples_over _ _ (reads a.expr) (λ values below. (h.0, value-below l.domain values a.expr some below))) (bracket_over names rest h.1.1.1)
+        let all = reads a.expr ++ bracket_scalars rest in
+        let target = All-head (λ r. r < l.scalars) a.target all h in
+        over-append l (tuples_over _ _ (reads a.expr) (λ values below. (target, value-below l.domain values a.expr some below)))
+        (bracket_over names rest (All-behind (λ r. r < l.scalars) (reads a.expr) (bracket_scalars rest) (All-tail (λ r. r < l.scalars) a.target all h)))
 
   module _ (names : NameTable) (s : ℕ) (own : IsThreadNumber l s) (x : ℕ) (here : x < l.locations) where
     -- ---- a store
@@ -139,28 +142,28 @@ module _ (l : Sizes) where
     last_over false z v h = over-frame l h
 
     read_over : (b c : Bool) (t z v : ℕ) → IsAtom l (Read t z v) → IsOver l (store_read b c t z v)
-    read_over true true t z v h = over-becomes l h h.1.1
-    read_over false true t z v h = over-gains l h h h.1.1
+    read_over true true t z v h = over-becomes l h h.2
+    read_over false true t z v h = over-gains l h h h.2
     read_over true false t z v h = over-frame l h
     read_over false false t z v h = over-frame l h
 
     then_over : (b c d e : Bool) (t z v u w : ℕ) → IsAtom l (Then t z v u w) → IsOver l (store_then b c d e t z v u w)
-    then_over true true true true t z v u w h = over-becomes l h h.1.1.0
-    then_over true true true false t z v u w h = over-becomes_both l h h.1.1.0 h.1.1.1.1
-    then_over true true false e t z v u w h = over-becomes_both l h h.1.1.0 (h.0, h.1.1.1.0, h.1.1.1.1)
-    then_over true false true e t z v u w h = over-becomes_both l h (h.0, h.1.0, h.1.1.0) h.1.1.1.1
-    then_over false true false e t z v u w h = over-gains_both l h h h.1.1.0 (h.1.1.1.0, h.1.1.1.1)
-    then_over false false true e t z v u w h = over-gains_both l h h (h.0, h.1.0, h.1.1.0) h.1.1.1.1
+    then_over true true true true t z v u w h = over-becomes l h h.2
+    then_over true true true false t z v u w h = over-becomes_both l h h.2 h.4
+    then_over true true false e t z v u w h = over-becomes_both l h h.2 (h.0, h.3, h.4)
+    then_over true false true e t z v u w h = over-becomes_both l h (h.0, h.1, h.2) h.4
+    then_over false true false e t z v u w h = over-gains_both l h h h.2 (h.3, h.4)
+    then_over false false true e t z v u w h = over-gains_both l h h (h.0, h.1, h.2) h.4
     then_over false true true true t z v u w h =
-        let r = (h.0, h.1.0, h.1.1.0) in
-        let a = h.1.1.0 in
-        let b = h.1.1.1.1 in
-        written_out l ((h, h, b, tt), (h, h, r, a, tt), (h, h, tt), (r, b, h, tt), (a, h, tt), tt)
+        let r : IsAtom l (Read t z v) = (h.0, h.1, h.2) in
+        let a = h.2 in
+        let b = h.4 in
+        written_out l ((h, (h, (b, tt))), ((h, (h, (r, (a, tt)))), ((h, (h, tt)), ((r, (b, (h, tt))), ((a, (h, tt)), tt)))))
     then_over false true true false t z v u w h =
-        let r = (h.0, h.1.0, h.1.1.0) in
-        let a = h.1.1.0 in
-        let b = h.1.1.1.1 in
-        written_out l ((h, h, b, tt), (h, h, r, a, tt), (h, h, tt), (r, b, h, tt), (a, b, h, tt), tt)
+        let r : IsAtom l (Read t z v) = (h.0, h.1, h.2) in
+        let a = h.2 in
+        let b = h.4 in
+        written_out l ((h, (h, (b, tt))), ((h, (h, (r, (a, tt)))), ((h, (h, tt)), ((r, (b, (h, tt))), ((a, (b, (h, tt))), tt)))))
     then_over true false false e t z v u w h = over-frame l h
     then_over false false false e t z v u w h = over-frame l h
 
@@ -196,24 +199,24 @@ module _ (l : Sizes) where
 
     module _ (r : ℕ) (target : r < l.scalars) where
       read_then_over : (z w : ℕ) → z < l.locations → w < l.domain → IsOver l (read_then l s r x z w)
-      read_then_over z w h k = over-values l (λ v o. let low = is_below l.domain v o in written_out l (((target, low), (own, h, k), (own, here, low, h, k), tt), tt))
+      read_then_over z w h k = over-values l (λ v o. let low = is_below l.domain v o in written_out l (((target, low), ((own, h, k), ((own, here, low, h, k), tt))), tt))
 
       load_scalar_over : (b : Bool) (q k : ℕ) → IsAtom l (Scalar q k) → IsOver l (load_scalar b s x q k)
-      load_scalar_over true q k h = written_out l ((h, (own, here, h.1), tt), tt)
+      load_scalar_over true q k h = written_out l ((h, ((own, here, h.1), tt)), tt)
       load_scalar_over false q k h = over-frame l h
 
       load_read_over : (b : Bool) (t z w : ℕ) → IsAtom l (Read t z w) → IsOver l (load_read l b s r x t z w)
       load_read_over true t z w h =
-          over-append l (written_out l ((h, h, tt), tt))
-          (over-append l (read_then_over z w h.1.0 h.1.1) (written_out l (((own, here), h, h, tt), tt)))
+          over-append l {cs = only_where (after (Read t z w)) (before (Read t z w))} (written_out l ((h, (h, tt)), tt))
+          (over-append l {cs = read_then l s r x z w} (read_then_over z w h.1 h.2) (written_out l (((own, here), (h, (h, tt))), tt)))
       load_read_over false t z w h = over-frame l h
 
       load_then_over : (b : Bool) (a : ViewAtom) → IsAtom l a → IsOver l (load_then b s x a)
-      load_then_over true a h = written_out l ((h, h, tt), ((own, here), h, h, tt), tt)
+      load_then_over true a h = written_out l ((h, (h, tt)), (((own, here), (h, (h, tt))), tt))
       load_then_over false a h = over-frame l h
 
       load_view_over : (b : Bool) (a : ViewAtom) → IsAtom l a → IsOver l (load_view b s x a)
-      load_view_over true a h = written_out l ((h, h, tt), ((own, here), h, h, tt), tt)
+      load_view_over true a h = written_out l ((h, (h, tt)), (((own, here), (h, (h, tt))), tt))
       load_view_over false a h = over-frame l h
 
       load_over : RowsOver (load l s r x)
@@ -235,38 +238,47 @@ module _ (l : Sizes) where
 
       cas_scalar_over : (b : Bool) (q k : ℕ) → IsAtom l (Scalar q k) → IsOver l (cas_scalar b s x q k)
       cas_scalar_over true q k h =
-          over-append l (over-under l Succeeds (over-becomes l h h.1))
-          (over-under l Fails (written_out l ((h, h.1, tt), (h, (own, here, h.1), tt), (h, (own, here), (here, h.1), tt), tt)))
+          let e = h.1 in
+          let m : IsAtom l (Read s x k) = (own, here, h.1) in
+          let f : IsAtom l (Fenced s x) = (own, here) in
+          let a : IsAtom l (Last x k) = (here, h.1) in
+          written_out l ((tt, (h, (e, tt))), ((tt, (e, (h, tt))), ((tt, (h, (e, tt))), ((tt, (h, (m, tt))), ((tt, (h, (f, (a, tt)))), tt)))))
       cas_scalar_over false q k h = over-frame l h
 
       cas_read_over : (b c : Bool) (t z w : ℕ) → IsAtom l (Read t z w) → IsOver l (cas_read l b c names s r x t z w)
       cas_read_over true c t z w h =
-          let mine = (own, h.1.0, h.1.1) in
-          over-append l (over-under l Succeeds (over-becomes l mine h.1))
-          (over-under l Fails (over-append l (written_out l ((mine, mine, tt), tt)) (read_then_over z w h.1.0 h.1.1)))
+          let mine : IsAtom l (Read s z w) = (own, h.1, h.2) in
+          let a : IsAtom l (Last z w) = (h.1, h.2) in
+          over-append l {cs = under Succeeds (becomes (after (Read s z w)) (after (Last z w)))} (written_out l ((tt, (mine, (a, tt))), ((tt, (a, (mine, tt))), tt)))
+          (over-under l Fails {cs = only_where (after (Read s z w)) (before (Read s z w)) ++ read_then l s r x z w}
+          (over-append l {cs = only_where (after (Read s z w)) (before (Read s z w))} (written_out l ((mine, (mine, tt)), tt)) (read_then_over z w h.1 h.2)))
       cas_read_over false c t z w h = stored_over c (Read t z w) h
 
-      own_then_over : (b : Bool) (z v u w : ℕ) → IsAtom l (Then s z v u w) → IsOver l (own_then b s z v u w)
-      own_then_over true z v u w h =
-          over-append l (over-under l Succeeds (over-becomes l h (h.1.0, h.1.1.0))) (over-under l Fails (written_out l ((h, h, tt), tt)))
-      own_then_over false z v u w h =
-          over-append l (over-under l Succeeds (over-becomes_both l h (h.1.0, h.1.1.0) (h.1.1.1.0, h.1.1.1.1))) (over-under l Fails (written_out l ((h, h, tt), tt)))
+      own_then_over : (b : Bool) (t z v u w : ℕ) → IsAtom l (Then t z v u w) → IsOver l (own_then b t z v u w)
+      own_then_over true t z v u w h =
+          let a : IsAtom l (Last z v) = (h.1, h.2) in
+          written_out l ((tt, (h, (a, tt))), ((tt, (a, (h, tt))), ((tt, (h, (h, tt))), tt)))
+      own_then_over false t z v u w h =
+          let a : IsAtom l (Last z v) = (h.1, h.2) in
+          let b : IsAtom l (Last u w) = (h.3, h.4) in
+          written_out l ((tt, (h, (a, tt))), ((tt, (h, (b, tt))), ((tt, (a, (b, (h, tt)))), ((tt, (h, (h, tt))), tt))))
 
       cas_then_over : (b c d : Bool) (t z v u w : ℕ) → IsAtom l (Then t z v u w) → IsOver l (cas_then b c d names s x t z v u w)
-      cas_then_over true c d t z v u w h = own_then_over d z v u w (own, h.1)
+      cas_then_over true c d t z v u w h = own_then_over d t z v u w h
       cas_then_over false c d t z v u w h = stored_over c (Then t z v u w) h
 
       cas_view_over : (b c : Bool) (t z : ℕ) (a : ViewAtom) → IsAtom l (Fenced t z) → IsAtom l a → IsOver l (cas_view b c names s x t z a)
-      cas_view_over true c t z a f h = over-append l (over-under l Succeeds (written_out l ((h, tt), tt))) (over-under l Fails (over-becomes l h f))
+      cas_view_over true c t z a f h = written_out l ((tt, (h, tt)), ((tt, (h, (f, tt))), ((tt, (f, (h, tt))), tt)))
       cas_view_over false c t z a f h = stored_over c a h
 
       own_fenced_over : (b : Bool) (z : ℕ) → z < l.locations → IsOver l (own_fenced b s x z)
       own_fenced_over true z h =
-          let f = (own, h) in
-          over-append l (over-under l Succeeds (written_out l ((f, tt), tt))) (over-under l Fails (written_out l ((f, f, tt), tt)))
+          let f : IsAtom l (Fenced s z) = (own, h) in
+          written_out l ((tt, (f, tt)), ((tt, (f, (f, tt))), tt))
       own_fenced_over false z h =
-          let f = (own, h) in
-          over-append l (over-under l Succeeds (written_out l ((f, tt), tt))) (over-under l Fails (written_out l ((f, f, tt), ((own, here), f, f, tt), tt)))
+          let f : IsAtom l (Fenced s z) = (own, h) in
+          let e : IsAtom l (Fenced s x) = (own, here) in
+          written_out l ((tt, (f, tt)), ((tt, (f, (f, tt))), ((tt, (e, (f, (f, tt)))), tt)))
 
       cas_fenced_over : (b c : Bool) (t z : ℕ) → IsAtom l (Fenced t z) → IsOver l (cas_fenced b c names s x t z)
       cas_fenced_over true c t z h = own_fenced_over c z h.1
@@ -301,7 +313,7 @@ module _ (l : Sizes) where
   assign_over r (Fenced t z) h = over-frame l h
 
   loses_over : (b : Bool) (a : ViewAtom) → IsAtom l a → IsOver l (fence_loses b a)
-  loses_over true a h = written_out l ((h, h, tt), tt)
+  loses_over true a h = written_out l ((h, (h, tt)), tt)
   loses_over false a h = over-frame l h
 
   view_over : (b : Bool) (t z : ℕ) (a : ViewAtom) → IsAtom l (Fenced t z) → IsAtom l a → IsOver l (fence_view b t z a)
@@ -333,42 +345,50 @@ module _ (l : Sizes) where
   -- ---- any act
 
   module _ (some : 0 < l.domain) (names : NameTable) (s : ℕ) (own : IsThreadNumber l s) where
-    act_rows_over : (act : Act-F Act Stmt) → IsActOver l act → RowsOver (act_row l names s act)
-    act_rows_over (Assign r e) h = assign_over r
-    act_rows_over (Store x e) h = store_over names s own x h.0
-    act_rows_over (Load r x) h = load_over names s own x h.1 r h.0
-    act_rows_over (Cas r x e d) h = cas_over names s own x h.1.0 r h.0
-    act_rows_over Mfence h = mfence_over s
-    act_rows_over Sfence h = sfence_over s
-    act_rows_over (Flush x) h = frames
-    act_rows_over (Flushopt x) h = frames
-    act_rows_over (If test j k) h = frames
-    act_rows_over (While test j) h = frames
+    first_scalar : (r : ℕ) (rs : List ℕ) → All (λ q. q < l.scalars) (r ∷ rs) → r < l.scalars
+    first_scalar r rs h = All-head (λ q. q < l.scalars) r rs h
 
-    act_values_over : (branch : Branch) (act : Act-F Act Stmt) → IsActOver l act → IsOver l (act_values l branch act)
-    act_values_over branch (Assign r e) h = value_over some e Value (λ v low. low)
-    act_values_over branch (Store x e) h = value_over some e Value (λ v low. low)
-    act_values_over branch (Cas r x e d) h =
+    first_location : (x : ℕ) → All (λ z. z < l.locations) (x ∷ []) → x < l.locations
+    first_location x h = All-head (λ z. z < l.locations) x [] h
+
+    act_rows_over : (act : Act-F Act Stmt) → All (λ q. q < l.scalars) (outside_in act) → All (λ z. z < l.locations) (locations_in act) → RowsOver (act_row l names s act)
+    act_rows_over (Assign r e) h k = assign_over r
+    act_rows_over (Store x e) h k = store_over names s own x (first_location x k)
+    act_rows_over (Load r x) h k = load_over names s own x (first_location x k) r (first_scalar r [] h)
+    act_rows_over (Cas r x e d) h k = cas_over names s own x (first_location x k) r (first_scalar r (reads e ++ reads d) h)
+    act_rows_over Mfence h k = mfence_over s
+    act_rows_over Sfence h k = sfence_over s
+    act_rows_over (Flush x) h k = frames
+    act_rows_over (Flushopt x) h k = frames
+    act_rows_over (If test a b) h k = frames
+    act_rows_over (While test a) h k = frames
+
+    act_values_over : (branch : Branch) (act : Act-F Act Stmt) → All (λ z. z < l.locations) (locations_in act) → IsOver l (act_values l branch act)
+    act_values_over branch (Assign r e) k = value_over some e Value (λ v low. low)
+    act_values_over branch (Store x e) k = value_over some e Value (λ v low. low)
+    act_values_over branch (Cas r x e d) k =
         over-append l (value_over some e Expected (λ v low. low))
         (over-append l (value_over some d Value (λ v low. low))
-        (over-under l Succeeds (over-values l (λ v o. let low = is_below l.domain v o in written_out l ((low, (h.1.0, low), tt), tt)))))
-    act_values_over branch (If test j k) h = test_over some test branch
-    act_values_over branch (While test j) h = test_over some test branch
-    act_values_over branch (Load r x) h = over-none l
-    act_values_over branch Mfence h = over-none l
-    act_values_over branch Sfence h = over-none l
-    act_values_over branch (Flush x) h = over-none l
-    act_values_over branch (Flushopt x) h = over-none l
+        (over-under l Succeeds (over-values l (λ v o. let low = is_below l.domain v o in written_out l ((low, ((first_location x k, low), tt)), tt)))))
+    act_values_over branch (If test a b) k = test_over some test branch
+    act_values_over branch (While test a) k = test_over some test branch
+    act_values_over branch (Load r x) k = over-none l
+    act_values_over branch Mfence k = over-none l
+    act_values_over branch Sfence k = over-none l
+    act_values_over branch (Flush x) k = over-none l
+    act_values_over branch (Flushopt x) k = over-none l
 
-    stmt_rules_over : (branch : Branch) (act : Act-F Act Stmt) (aux : List AuxAssign) → IsActOver l act → AreAssigns l aux
-        → IsOver l (rules l names aux (act_values l branch act) (act_row l names s act))
+    stmt_rules_over : (branch : Branch) (act : Act-F Act Stmt) (aux : List AuxAssign) → All (λ q. q < l.scalars) (outside_in act ++ bracket_scalars aux)
+        → All (λ z. z < l.locations) (locations_in act) → IsOver l (rules l names aux (act_values l branch act) (act_row l names s act))
     stmt_rules_over branch act aux h k =
-        over-append l (act_values_over branch act h)
-        (over-append l (scalar_rows_over _ (act_row l names s act) (act_rows_over act h))
-        (over-append l (bracket_over some names aux k) (access_rows_over (act_row l names s act) (act_rows_over act h))))
+        let outside = All-front (λ q. q < l.scalars) (outside_in act) (bracket_scalars aux) h in
+        over-append l (act_values_over branch act k)
+        (over-append l (scalar_rows_over _ (act_row l names s act) (act_rows_over act outside k))
+        (over-append l (bracket_over some names aux (All-behind (λ q. q < l.scalars) (outside_in act) (bracket_scalars aux) h))
+        (access_rows_over (act_row l names s act) (act_rows_over act outside k))))
 
-pub access_over : (p : ProgramTable) (step : Step) → IsProgram p → length p.names.scalars ≤ 16 → IsStepOf p step → IsOver (sizes p.names (length p.threads)) (access p step)
-access_over p step built few is = by (stmt_at p step.thread step.point) refl
+pub access_over : (p : ProgramTable) (step : Step) → IsProgram p → IsStepOf p step → IsOver (sizes p.names (length p.threads)) (access p step)
+access_over p step built is = by (stmt_at p step.thread step.point) refl
   where
     l : Sizes
     l = sizes p.names (length p.threads)
@@ -376,5 +396,5 @@ access_over p step built few is = by (stmt_at p step.thread step.point) refl
     by : (o : Option Stmt) → stmt_at p step.thread step.point ≡ o → IsOver l (rules_of l p.names step.thread step.branch o)
     by None at = over-none l
     by (Some stmt) at =
-        let over = stmt_over p built few step.thread step.point stmt is.thread.0 is.thread.1 at in
-        stmt_rules_over l (has_values p built) p.names step.thread (record { first = is.thread.0; last = is.thread.1 }) step.branch (out-Act (out-Stmt stmt).act) (out-Stmt stmt).aux over.0 over.1
+        let it = stmt_of p built step.thread step.point stmt is.thread.0 is.thread.1 at in
+        stmt_rules_over l (has_values p built) p.names step.thread (record { first = is.thread.0; last = is.thread.1 }) step.branch (out-Act (out-Stmt stmt).act) (out-Stmt stmt).aux it.scalars it.locations

@@ -4,12 +4,12 @@ use Rattle.std.specs.List.{All, flat_map, range_with_len}
 use Rattle.std.proofs.lemmas.List.Elements.{All-nil, All-cons, All-head, All-tail, All-append}
 use Rattle.pg_assertion.specs.declared.layout.Side.{Side}
 use Rattle.pg_assertion.specs.declared.step_atom.StepAtom.TheVariants.{On}
-use Rattle.pg_assertion.specs.declared.atom.ViewAtom.TheVariants.{Scalar, Last}
+use Rattle.pg_assertion.specs.declared.atom.ViewAtom.TheVariants.{Scalar, Last, Persist}
 use Rattle.pg_assertion.specs.Layout.{Sizes, IsAtom, IsThreadNumber, threads}
 use Rattle.pg_views.specs.Laws.{ValueSet, readable, persistent, pending, is_in}
 use Rattle.pg_tables.specs.declared.clause.StepLiteral.{StepLiteral}
 use Rattle.pg_tables.specs.Table.{IsOneOf}
-use Rattle.pg_axioms.specs.Axioms.{each_pair, value_sets, not_both_apart, axioms}
+use Rattle.pg_axioms.specs.Axioms.{rule, each_pair, value_sets, not_both_apart, axioms}
 use Rattle.pg_layers.proofs.Over.{IsOver, written_out, over-none, over-append, over-when, over-threads, over-locations, over-values, over-scalars, over-exactly_one}
 
 pub is_thread : (l : Sizes) (t : ℕ) → IsOneOf 1 l.threads t → IsThreadNumber l t
@@ -44,7 +44,7 @@ module _ (l : Sizes) (side : Side) where
       over-values l (λ v o. over-values l (λ w p.
       let low = is_below l.domain v o in
       let under = is_below l.domain w p in
-      over-when l _ (written_out l ((h x v here low, k x w here under, h x w here under, k x v here low, tt), tt))))
+      over-when l _ (written_out l ((h x v here low, (k x w here under, (h x w here under, (k x v here low, tt)))), tt))))
 
   with_each : (x : ℕ) → x < l.locations → (a : ValueSet) → IsSet a → (rest : List ValueSet) → All IsSet rest → IsOver l (flat_map (not_both_apart l side x a) rest)
   with_each x here a h [] all = over-none l
@@ -72,26 +72,26 @@ module _ (l : Sizes) (side : Side) where
       (over-locations l (λ x o. over-exactly_one l (λ v. On (Last x v) side) (λ v low. (X x o, low))))
       (over-scalars l (λ r o. over-exactly_one l (λ v. On (Scalar r v) side) (λ v low. (is_below l.scalars r o, low)))))
       (over-append l
-      (over-locations l (λ x o. over-values l (λ v p. let c = (X x o, V v p) in over-append l (written_out l ((c, c, tt), tt))
-      (over-threads l (λ t q. written_out l ((c, (T t q, c), tt), (c, (T t q, c), tt), tt))))))
+      (over-locations l (λ x o. over-values l (λ v p. let c : (x < l.locations) × (v < l.domain) = (X x o, V v p) in over-append l {cs = rule side (Last x v ∷ []) (Persist x v ∷ []) ∷ []} (written_out l ((c, (c, tt)), tt))
+      (over-threads l (λ t q. written_out l ((c, ((T t q, c.0, c.1), tt)), ((c, ((T t q, c.0, c.1), tt)), tt)))))))
       (over-append l
-      (over-threads l (λ t q. over-locations l (λ x o. over-values l (λ v p. let c = (X x o, V v p) in written_out l (((T t q, c), c, tt), tt)))))
+      (over-threads l (λ t q. over-locations l (λ x o. over-values l (λ v p. let c : (x < l.locations) × (v < l.domain) = (X x o, V v p) in written_out l (((T t q, c.0, c.1), (c, tt)), tt)))))
       (over-append l
-      (over-threads l (λ t q. over-locations l (λ x o. over-values l (λ v p. let c = (X x o, V v p) in written_out l (((T t q, X x o), (T t q, c), c, tt), tt)))))
+      (over-threads l (λ t q. over-locations l (λ x o. over-values l (λ v p. let c : (x < l.locations) × (v < l.domain) = (X x o, V v p) in written_out l (((T t q, X x o), ((T t q, c.0, c.1), (c, tt))), tt)))))
       (over-append l
-      (over-threads l (λ t q. over-locations l (λ x o. let c = (T t q, X x o) in written_out l ((c, c, tt), (c, c, tt), tt))))
-      (over-append l
-      (over-threads l (λ t q. over-locations l (λ x o. over-values l (λ v p. over-locations l (λ y m. over-values l (λ w n.
-      let c = (X x o, V v p) in let d = (X y m, V w n) in
-      written_out l (((T t q, (X x o, (V v p, d))), (T t q, c), tt), ((T t q, (X x o, (V v p, d))), (T t q, d), tt), tt)))))))
-      (over-append l
+      (over-threads l (λ t q. over-locations l (λ x o. let c : IsThreadNumber l t × (x < l.locations) = (T t q, X x o) in written_out l ((c, (c, tt)), ((c, (c, tt)), tt)))))
       (over-append l
       (over-threads l (λ t q. over-locations l (λ x o. over-values l (λ v p. over-locations l (λ y m. over-values l (λ w n.
-      let c = (X x o, V v p) in let d = (X y m, V w n) in
-      written_out l (((T t q, c), d, (T t q, (X x o, (V v p, d))), tt), tt)))))))
-      (over-threads l (λ t q. over-locations l (λ x o. over-values l (λ v p. let c = (X x o, V v p) in written_out l (((T t q, c), (T t q, (X x o, (V v p, c))), tt), tt))))))
+      let c : (x < l.locations) × (v < l.domain) = (X x o, V v p) in let d : (y < l.locations) × (w < l.domain) = (X y m, V w n) in
+      written_out l (((T t q, X x o, V v p, d.0, d.1), ((T t q, c.0, c.1), tt)), (((T t q, X x o, V v p, d.0, d.1), ((T t q, d.0, d.1), tt)), tt))))))))
+      (over-append l
       (over-append l
       (over-threads l (λ t q. over-locations l (λ x o. over-values l (λ v p. over-locations l (λ y m. over-values l (λ w n.
-      let c = (X x o, V v p) in let d = (X y m, V w n) in
-      written_out l (((T t q, X x o), c, (T t q, d), (T t q, (X x o, (V v p, d))), tt), tt)))))))
+      let c : (x < l.locations) × (v < l.domain) = (X x o, V v p) in let d : (y < l.locations) × (w < l.domain) = (X y m, V w n) in
+      written_out l (((T t q, c.0, c.1), (d, ((T t q, X x o, V v p, d.0, d.1), tt))), tt)))))))
+      (over-threads l (λ t q. over-locations l (λ x o. over-values l (λ v p. let c : (x < l.locations) × (v < l.domain) = (X x o, V v p) in written_out l (((T t q, c.0, c.1), ((T t q, X x o, V v p, c.0, c.1), tt)), tt))))))
+      (over-append l
+      (over-threads l (λ t q. over-locations l (λ x o. over-values l (λ v p. over-locations l (λ y m. over-values l (λ w n.
+      let c : (x < l.locations) × (v < l.domain) = (X x o, V v p) in let d : (y < l.locations) × (w < l.domain) = (X y m, V w n) in
+      written_out l (((T t q, X x o), (c, ((T t q, d.0, d.1), ((T t q, X x o, V v p, d.0, d.1), tt)))), tt)))))))
       (over-locations l (λ x o. pairs_over x (X x o) (value_sets l) sets_are)))))))))

@@ -28,7 +28,7 @@ module _ (l : Sizes) where
       (over-threads l (λ t q. over-locations l (λ z o. over-values l (λ v p. k t z v (is_thread l t q) (is_below l.locations z o) (is_below l.domain v p)))))
 
   frames_over : IsOver l (persist_rows l (λ a. frame a))
-  frames_over = rows_over _ (λ z v h k. over-frame l (h, k)) (λ t z v i h k. over-frame l (i, h, k))
+  frames_over = rows_over (λ a. frame a) (λ z v h k. over-frame l {a = Persist z v} (h, k)) (λ t z v i h k. over-frame l {a = Async t z v} (i, h, k))
 
   gained : (b : Bool) (a : ViewAtom) (v : ℕ) → IsAtom l a → v < l.domain → IsOver l (store_gains b a v)
   gained true a v h k = over-gains l h h k
@@ -47,7 +47,7 @@ module _ (l : Sizes) where
 
     flushed : (b : Bool) (z v : ℕ) → z < l.locations → v < l.domain → IsOver l (flush_persist b s z v)
     flushed true z v h k =
-        written_out l (((h, k), (h, k), tt), ((h, k), (own, h, k), tt), ((h, k), (own, h, k), tt), ((own, h), (h, k), (h, k), tt), tt)
+        written_out l (((h, k), ((h, k), tt)), (((h, k), ((own, h, k), tt)), (((h, k), ((own, h, k), tt)), (((own, h), ((h, k), ((h, k), tt))), tt))))
     flushed false z v h k = over-frame l (h, k)
 
     flushed_next : (b : Bool) (t z v : ℕ) → IsThreadNumber l t → z < l.locations → v < l.domain → IsOver l (flush_async b t z v)
@@ -58,7 +58,7 @@ module _ (l : Sizes) where
     flush_over names x = rows_over (flush names s x) (λ z v h k. flushed (same_line names x z) z v h k) (λ t z v i h k. flushed_next (same_line names x z) t z v i h k)
 
     begun : (b c : Bool) (t z v : ℕ) → IsThreadNumber l t → z < l.locations → v < l.domain → IsOver l (flushopt_async b c t z v)
-    begun true true t z v i h k = written_out l (((i, h, k), (i, h, k), tt), ((i, h, k), (i, h, k), tt), ((i, h), (i, h, k), (h, k), tt), tt)
+    begun true true t z v i h k = written_out l (((i, h, k), ((i, h, k), tt)), (((i, h, k), ((i, h, k), tt)), (((i, h), ((i, h, k), ((h, k), tt))), tt)))
     begun true false t z v i h k = over-frame l (i, h, k)
     begun false c t z v i h k = over-frame l (i, h, k)
 
@@ -66,16 +66,22 @@ module _ (l : Sizes) where
     flushopt_over names x = rows_over (flushopt names s x) (λ z v h k. over-frame l (h, k)) (λ t z v i h k. begun (t == s) (same_line names x z) t z v i h k)
 
     swapped : (b : Bool) (z v : ℕ) → z < l.locations → v < l.domain → IsOver l (cas_persist b s z v)
-    swapped true z v h k = over-append l (over-under l Succeeds (over-gains l (h, k) (own, h, k) k)) (over-under l Fails (over-becomes l (h, k) (own, h, k)))
+    swapped true z v h k =
+        let p : IsAtom l (Persist z v) = (h, k) in
+        let a : IsAtom l (Async s z v) = (own, h, k) in
+        written_out l ((tt, (p, (a, (k, tt)))), ((tt, (a, (p, tt))), ((tt, (k, (p, tt))), ((tt, (p, (a, tt))), ((tt, (a, (p, tt))), tt)))))
     swapped false z v h k = over-becomes l (h, k) (own, h, k)
 
     swapped_next : (b c : Bool) (t z v : ℕ) → IsThreadNumber l t → z < l.locations → v < l.domain → IsOver l (cas_async b c s t z v)
-    swapped_next true true t z v i h k = over-append l (over-under l Succeeds (over-gains l (i, h, k) (i, h, k) k)) (over-under l Fails (over-frame l (i, h, k)))
+    swapped_next true true t z v i h k =
+        let a : IsAtom l (Async t z v) = (i, h, k) in
+        written_out l ((tt, (a, (a, (k, tt)))), ((tt, (a, (a, tt))), ((tt, (k, (a, tt))), ((tt, (a, (a, tt))), ((tt, (a, (a, tt))), tt)))))
     swapped_next true false t z v i h k = over-frame l (i, h, k)
     swapped_next false true t z v i h k =
-        over-append l
-        (over-under l Succeeds (written_out l (((i, h, k), (i, h, k), k, tt), ((i, h, k), (own, h, k), k, tt), ((i, h, k), (own, h, k), (i, h, k), tt), (k, (i, h, k), tt), tt)))
-        (over-under l Fails (over-becomes_both l (i, h, k) (i, h, k) (own, h, k)))
+        let a : IsAtom l (Async t z v) = (i, h, k) in
+        let b : IsAtom l (Async s z v) = (own, h, k) in
+        written_out l ((tt, (a, (a, (k, tt)))), ((tt, (a, (b, (k, tt)))), ((tt, (a, (b, (a, tt)))), ((tt, (k, (a, tt))),
+        ((tt, (a, (a, tt))), ((tt, (a, (b, tt))), ((tt, (a, (b, (a, tt)))), tt)))))))
     swapped_next false false t z v i h k = over-becomes_both l (i, h, k) (i, h, k) (own, h, k)
 
     cas_over : (x : ℕ) → IsOver l (persist_rows l (cas s x))

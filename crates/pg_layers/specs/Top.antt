@@ -13,6 +13,10 @@ use Rattle.pg_tables.specs.declared.clause.StepLiteral.{StepLiteral}
 use Rattle.pg_tables.specs.Shapes.{before, always, never}
 use Rattle.pg_tables.specs.Table.{when, per_thread, per_location, per_value, per_scalar}
 use Rattle.pg_clauses.specs.Definitional.{after, literal, clauses}
+use Rattle.pg_outline.specs.Outline.{OutlineTable, note_at}
+use Rattle.pg_obligations.specs.declared.obligation.Obligation.{Obligation}
+use Rattle.pg_obligations.specs.declared.obligation.Obligation.TheVariants.{Fresh, Entry, EntryCrash, Local, Crash, Interfere}
+use Rattle.pg_obligations.specs.Follow.{crash_of}
 
 -- a formula of one side, over the numbers of its atoms there
 abbrev pub placed : Sizes → Side → Plain ViewAtom → Plain ℕ
@@ -39,7 +43,7 @@ given_part n f = clauses n f ++ ((literal n f ∷ []) ∷ [])
 
 -- these clauses were appended, and the next new atom is told
 pub record IsGiven (old new : SinkView) (n : ℕ) (f : Plain ℕ) (next : ℕ) : Type 0 where
-  pub next : next ≡ after n f
+  pub told : next ≡ after n f
   pub few : next ≤ n + most_expansion_nodes
   pub appended : Appended old new (given_part n f)
 
@@ -53,3 +57,13 @@ fresh_units l names =
     ++ (per_location l (λ x. always (before (Last x (slice_index (initial names) x))))
     ++ (per_thread l (λ t. per_location l (λ x. always (before (Newest t x))))
     ++ per_location l (λ x. per_value l (λ v. when (not (v == slice_index (initial names) x)) (never (before (Persist x v)))))))
+
+-- how many new atoms the formulas of an obligation take
+abbrev pub new_in : OutlineTable → Obligation → ℕ
+new_in o Fresh = taken o.pre
+new_in o (Entry t) = taken o.pre + taken (note_at o t 1)
+new_in o EntryCrash = taken o.pre + taken (crash_of o)
+new_in o (Local step) = taken (note_at o step.thread step.point) + taken (crash_of o) + taken (note_at o step.thread step.target)
+new_in o (Crash step) = taken (note_at o step.thread step.point) + taken (crash_of o) + taken (crash_of o)
+new_in o (Interfere step at) =
+    taken (note_at o step.thread step.point) + taken (note_at o at.thread at.point) + taken (crash_of o) + taken (note_at o at.thread at.point)

@@ -32,7 +32,7 @@ fn offer_given<S: ClauseSink>(
 }
 
 /// Gives the clauses of a goal to a sink.
-fn offer_goal<S: ClauseSink>(
+pub fn offer_goal<S: ClauseSink>(
     f: &Formula<ViewAtom>,
     layout: &Layout,
     side: Side,
@@ -49,57 +49,53 @@ fn offer_goal<S: ClauseSink>(
     into.clause(&[literal.negated()])
 }
 
-/// A goal, and the side on which it is to hold.
-#[derive(Clone, Copy)]
-pub struct Goal<'a> {
-    pub formula: &'a Formula<ViewAtom>,
-    pub side: Side,
-}
-
 /// Gives the clauses of one given formula and a goal to a sink.
-fn offer_one<S: ClauseSink>(
+pub fn offer_one<S: ClauseSink>(
     f: &Formula<ViewAtom>,
-    goal: Goal<'_>,
+    goal: &Formula<ViewAtom>,
+    side: Side,
     layout: &Layout,
     next: Fresh,
     into: &mut S,
 ) -> Result<(), S::Fault>
     requires part { IsPart layout.now (plain f.now) }
-    requires goal { IsPart layout.now (plain goal.formula.now) }
+    requires goal { IsPart layout.now (plain goal.now) }
     requires new { step_atoms layout.now < next }
     requires few { next + 2 * most_expansion_nodes ≤ 2 ^ 31 }
-    ensures { Emitted S.takes result (S.view into.old) (S.view into.new) (top_part next (placed layout.now Before (plain f.now) ∷ []) (placed layout.now goal.side (plain goal.formula.now))) }
+    ensures { Emitted S.takes result (S.view into.old) (S.view into.new) (top_part next (placed layout.now Before (plain f.now) ∷ []) (placed layout.now side (plain goal.now))) }
 {
     let next = offer_given(f, layout, next, into)?;
-    offer_goal(goal.formula, layout, goal.side, next, into)
+    offer_goal(goal, layout, side, next, into)
 }
 
 /// Gives the clauses of two given formulas and a goal to a sink.
-fn offer_two<S: ClauseSink>(
+pub fn offer_two<S: ClauseSink>(
     f: &Formula<ViewAtom>,
     g: &Formula<ViewAtom>,
-    goal: Goal<'_>,
+    goal: &Formula<ViewAtom>,
+    side: Side,
     layout: &Layout,
     next: Fresh,
     into: &mut S,
 ) -> Result<(), S::Fault>
     requires first { IsPart layout.now (plain f.now) }
     requires second { IsPart layout.now (plain g.now) }
-    requires goal { IsPart layout.now (plain goal.formula.now) }
+    requires goal { IsPart layout.now (plain goal.now) }
     requires new { step_atoms layout.now < next }
     requires few { next + 3 * most_expansion_nodes ≤ 2 ^ 31 }
-    ensures { Emitted S.takes result (S.view into.old) (S.view into.new) (top_part next (placed layout.now Before (plain f.now) ∷ placed layout.now Before (plain g.now) ∷ []) (placed layout.now goal.side (plain goal.formula.now))) }
+    ensures { Emitted S.takes result (S.view into.old) (S.view into.new) (top_part next (placed layout.now Before (plain f.now) ∷ placed layout.now Before (plain g.now) ∷ []) (placed layout.now side (plain goal.now))) }
 {
     let next = offer_given(f, layout, next, into)?;
-    offer_one(g, goal, layout, next, into)
+    offer_one(g, goal, side, layout, next, into)
 }
 
 /// Gives the clauses of three given formulas and a goal to a sink.
-fn offer_three<S: ClauseSink>(
+pub fn offer_three<S: ClauseSink>(
     f: &Formula<ViewAtom>,
     g: &Formula<ViewAtom>,
     h: &Formula<ViewAtom>,
-    goal: Goal<'_>,
+    goal: &Formula<ViewAtom>,
+    side: Side,
     layout: &Layout,
     next: Fresh,
     into: &mut S,
@@ -107,11 +103,11 @@ fn offer_three<S: ClauseSink>(
     requires first { IsPart layout.now (plain f.now) }
     requires second { IsPart layout.now (plain g.now) }
     requires third { IsPart layout.now (plain h.now) }
-    requires goal { IsPart layout.now (plain goal.formula.now) }
+    requires goal { IsPart layout.now (plain goal.now) }
     requires new { step_atoms layout.now < next }
     requires few { next + 4 * most_expansion_nodes ≤ 2 ^ 31 }
-    ensures { Emitted S.takes result (S.view into.old) (S.view into.new) (top_part next (placed layout.now Before (plain f.now) ∷ placed layout.now Before (plain g.now) ∷ placed layout.now Before (plain h.now) ∷ []) (placed layout.now goal.side (plain goal.formula.now))) }
+    ensures { Emitted S.takes result (S.view into.old) (S.view into.new) (top_part next (placed layout.now Before (plain f.now) ∷ placed layout.now Before (plain g.now) ∷ placed layout.now Before (plain h.now) ∷ []) (placed layout.now side (plain goal.now))) }
 {
     let next = offer_given(f, layout, next, into)?;
-    offer_two(g, h, goal, layout, next, into)
+    offer_two(g, h, goal, side, layout, next, into)
 }

@@ -1,0 +1,10 @@
+use Rattle.std.proofs.Common.{Option, sym, ap}
+use Rattle.pg_program.specs.declared.point.Step.{Step}
+use Rattle.pg_layers.specs.Layers.{or_before}
+use Rattle.pg_layers.proofs.Laying.{kept}
+use Rattle.pg_layers.proofs.layers.with_rules.Goals as goal
+
+pub returns-in-None : goal.returns-in-None
+returns-in-None c =
+    kept c.args.o.now c.args.step c.args.k c.args.region.now c.release.new.self c.requires.lies.0 c.requires.lies.1 c.release.ensures
+    (sym (ap (λ (s : Option Step). or_before s c.args.k.ruled) c.in-None.is))
