@@ -48,3 +48,13 @@ pub at_place : {A : Type 0} (f : A → ℕ) (xs : List A) (k : ℕ) (x : A) → 
 at_place f [] k x e = cc
 at_place f (y ∷ xs) zero x e = let same : y ≡ x = cc in (omega arith, ap f same)
 at_place f (y ∷ xs) (suc k) x e = let r = at_place f xs k x e in let a = r.0 in (omega (arith, a), r.1)
+
+-- one more number of a mapped list
+pub one_more : {A : Type 0} (f : A → ℕ) (xs : List A) (i k m n next : ℕ) (x : A) → slice_get xs i ≡ Some x → i ≡ k → n ≡ f x → IsSoFar (map f xs) k m
+    → ((m < n) × (next ≡ n)) ⊎ ((n ≤ m) × (next ≡ m)) → IsSoFar (map f xs) (k + 1) next
+one_more f xs i k m n next x at same is h (inl p) =
+    let a = at_place f xs k x (ap (slice_get xs) (sym same) ∙ at) in
+    subst (λ (j : ℕ). IsSoFar (map f xs) (k + 1) j) (sym p.1) (greater (map f xs) k m n a.0 (a.1 ∙ sym is) p.0 h)
+one_more f xs i k m n next x at same is h (inr p) =
+    let a = at_place f xs k x (ap (slice_get xs) (sym same) ∙ at) in
+    subst (λ (j : ℕ). IsSoFar (map f xs) (k + 1) j) (sym p.1) (not_greater (map f xs) k m n a.0 (a.1 ∙ sym is) p.0 h)
