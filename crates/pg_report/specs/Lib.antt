@@ -1,2 +1,6 @@
 pub mod Reported
 pub mod Refusal
+pub mod Obligations
+pub mod Placed
+pub mod Meaning
+pub mod Fresh

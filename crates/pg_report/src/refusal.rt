@@ -7,8 +7,9 @@ ghost use Rattle.pg_report.specs.Refusal.{kind_text, text_fault, program_text, o
 ghost use Rattle.pg_report.specs.Reported.{Reports};
 
 use crate::fault::ReportFault;
+use crate::lines::put_line;
 use itoa::Buffer;
-use pg_io::{Sink, SinkFault};
+use pg_io::Sink;
 use pg_lex::{TextFault, TextKind};
 use pg_outline::OutlineFault;
 use pg_outline_text::FileFault;
@@ -24,21 +25,7 @@ pub fn report_file_fault<K: Sink>(
     ensures { Reports (line_of (plain_fault fault.now)) result (K.written out.old) (K.written out.new) (K.faults out.old) (K.faults out.new) }
 {
     let line = refusal_line(alloc, fault)?;
-    put(&line, out)
-}
-
-/// Puts a line, if there is one.
-fn put<K: Sink>(line: &[u8], out: &mut K) -> Result<(), ReportFault>
-    ensures { Reports line.now result (K.written out.old) (K.written out.new) (K.faults out.old) (K.faults out.new) }
-{
-    if line.is_empty() {
-        return Ok(());
-    }
-    match out.put(line) {
-        Ok(()) => Ok(()),
-        Err(SinkFault::Failed) => Err(ReportFault::Write),
-        Err(SinkFault::NoMemory) => Err(ReportFault::NoMemory),
-    }
+    put_line(&line, out)
 }
 
 /// The line of a fault; an empty one for want of memory.

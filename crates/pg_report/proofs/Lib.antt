@@ -1,0 +1,7 @@
+mod Pieces
+mod FreshLines
+mod Numbered
+mod Within
+mod Names
+mod Meant
+mod Appended
