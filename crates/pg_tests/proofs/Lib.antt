@@ -1,2 +1,2 @@
 mod Atoms
-mod Steps
+mod FirstStep

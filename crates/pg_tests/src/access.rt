@@ -18,9 +18,6 @@ const X: (&str, NameKind) = ("x", NameKind::Location { init: 0 });
 
 const Y: (&str, NameKind) = ("y", NameKind::Location { init: 0 });
 
-/// On the line of x.
-const Y_WITH_X: (&str, NameKind) = ("y", NameKind::LocationWith { init: 0 });
-
 const R: (&str, NameKind) = ("r", NameKind::Register { owner: 1 });
 
 const G: (&str, NameKind) = ("g", NameKind::Auxiliary);
@@ -69,10 +66,10 @@ struct Case {
     literals: u32,
 }
 
-/// Each statement over two values, x, r and two threads, where a frame has 2 clauses of 2 literals; a store where y stands on the
-/// line of x, and where it does not; a cas with a bracket; and the longest steps of both versions. The clauses are those of the
+/// Each statement over two values, x, r and two threads, where a frame has 2 clauses of 2 literals; a store where there is
+/// a second location; a cas with a bracket; and the longest steps of both versions. The clauses are those of the
 /// values, the scalars, the bracket, L, R, C, N, O and F, and the literals go by the same parts.
-static CASES: [Case; 15] = [
+static CASES: [Case; 14] = [
     // 3 + 4 + 0 + 4 + 8 + 16 + 4 + 4 + 4; 5 + 8 + 0 + 8 + 16 + 32 + 8 + 8 + 8
     Case {
         names: &[X, R],
@@ -171,17 +168,7 @@ static CASES: [Case; 15] = [
         clauses: 47,
         literals: 93,
     },
-    // 3 + 0 + 0 + 8 + (8 + 10) + (42 + 60) + 6 + 5 + 5; 5 + 0 + 0 + 16 + (16 + 22) + (94 + 162) + 10 + 7 + 7
-    Case {
-        names: &[X, Y_WITH_X],
-        declared: 2,
-        values: 2,
-        threads: 2,
-        text: b"[true] x := 1; [true]",
-        clauses: 147,
-        literals: 339,
-    },
-    // A frame of O(1,y) in place of one clause of one literal.
+    // 3 + 0 + 0 + 8 + (8 + 10) + (42 + 60) + 6 + 6 + 5; 5 + 0 + 0 + 16 + (16 + 22) + (94 + 162) + 10 + 10 + 7
     Case {
         names: &[X, Y],
         declared: 2,
@@ -225,6 +212,17 @@ static CASES: [Case; 15] = [
     },
 ];
 
+/// That store, where y stands on the line of x: one clause of one literal in place of the frame of O(1,y).
+static SHARED: Case = Case {
+    names: &[],
+    declared: 0,
+    values: 2,
+    threads: 2,
+    text: b"[true] x := 1; [true]",
+    clauses: 147,
+    literals: 339,
+};
+
 /// The body of a thread that does nothing.
 const IDLE: &[u8] = b"[true]";
 
@@ -232,8 +230,19 @@ const IDLE: &[u8] = b"[true]";
 fn names(alloc: Global, case: &Case) -> Result<Names, Fail> {
     let mut names = Names::make(alloc, case.values, 2);
     for (name, kind) in case.names.iter().take(case.declared) {
+        if matches!(kind, NameKind::LocationWith { .. }) {
+            return Err(Fail::new("a location shares a line"));
+        }
         names.declare(*name, *kind)?;
     }
+    Ok(names)
+}
+
+/// Two locations on one line.
+fn sharing(alloc: Global) -> Result<Names, Fail> {
+    let mut names = Names::make(alloc, 2, 2);
+    names.declare("x", NameKind::Location { init: 0 })?;
+    names.declare("y", NameKind::LocationWith { init: 0 })?;
     Ok(names)
 }
 
@@ -260,9 +269,8 @@ fn four(alloc: Global, names: Names, text: &[u8]) -> Result<Program, Fail> {
     Ok(Program::build(alloc, names, threads)?)
 }
 
-/// The program of a case.
-fn program(alloc: Global, case: &Case) -> Result<Program, Fail> {
-    let names = names(alloc, case)?;
+/// The program of a case, over these names.
+fn program(alloc: Global, names: Names, case: &Case) -> Result<Program, Fail> {
     match case.threads {
         1 => alone(alloc, names, case.text),
         2 => pair(alloc, names, case.text),
@@ -321,11 +329,11 @@ fn holds(
 }
 
 /// Passes where the rules fill a region of their size, and one of a word or of a span less is full before the last of them.
-fn fit(alloc: Global, case: &Case) -> Result<(), Fail> {
+fn fit(alloc: Global, names: Names, case: &Case) -> Result<(), Fail> {
     if case.literals < 1 || case.clauses < 1 {
         return Err(Fail::new("no rules are wanted"));
     }
-    let p = program(alloc, case)?;
+    let p = program(alloc, names, case)?;
     let (words, spans) = (case.literals, case.clauses);
     let full = (Err(Full), spans - 1);
     holds(alloc, &p, words, spans, (Ok(()), spans), case.text)?;
@@ -337,9 +345,9 @@ fn fit(alloc: Global, case: &Case) -> Result<(), Fail> {
 fn rules_fill_a_region_of_their_size(rt: HostRuntime) -> Result<(), Fail> {
     let alloc = rt.alloc();
     for case in &CASES {
-        fit(alloc, case)?;
+        fit(alloc, names(alloc, case)?, case)?;
     }
-    Ok(())
+    fit(alloc, sharing(alloc)?, &SHARED)
 }
 
 /// A store of 1 to x, which is all that there is beside two values and a thread. The atoms before the step are L(x,0) and L(x,1),
@@ -409,7 +417,7 @@ fn is_clause(region: &Region, n: u32, wanted: &[i64]) -> bool {
 
 /// Passes where the rules of a case have these clauses behind so many others.
 fn has(alloc: Global, case: &Case, behind: u32, wanted: &[&[i64]]) -> Result<(), Fail> {
-    let p = program(alloc, case)?;
+    let p = program(alloc, names(alloc, case)?, case)?;
     let mut region = Region::make(alloc, case.literals, case.clauses)?;
     agree(rules(&p, &mut region)?, Ok(()), case.text)?;
     let mut n = behind;
@@ -423,8 +431,8 @@ fn has(alloc: Global, case: &Case, behind: u32, wanted: &[&[i64]]) -> Result<(),
 #[test]
 fn rules_are_clauses_over_numbers(rt: HostRuntime) -> Result<(), Fail> {
     let alloc = rt.alloc();
-    fit(alloc, &STORE)?;
+    fit(alloc, names(alloc, &STORE)?, &STORE)?;
     has(alloc, &STORE, 0, &FIRST)?;
-    fit(alloc, &BRACKET)?;
+    fit(alloc, names(alloc, &BRACKET)?, &BRACKET)?;
     has(alloc, &BRACKET, 18, &ASSIGNED)
 }
