@@ -31,6 +31,8 @@ mod outlines;
 #[cfg(test)]
 mod paths;
 #[cfg(test)]
+mod persist;
+#[cfg(test)]
 mod programs;
 #[cfg(test)]
 mod regions;
