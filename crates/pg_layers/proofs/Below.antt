@@ -1,16 +1,16 @@
 -- The numbers of the atoms of clauses, and truth under valuations that agree on them.
-use Rattle.std.proofs.Common.{◌≡◌, ℕ, ◌+◌, ◌-◌, ◌<◌, ◌≤◌, Bool, true, false, not, ◌||◌, ◌&&◌, cond, List, [], ◌∷◌, ◌++◌, map, refl, sym, ap, ap₂, ◌∙◌, arith}
-use Rattle.std.specs.List.{All, list_any, list_all}
-use Rattle.std.proofs.lemmas.List.Elements.{All-nil, All-cons, All-head, All-tail, All-append, All-weaker, All-map}
+use Rattle.std.proofs.Common.{◌≡◌, ℕ, ◌+◌, ◌<◌, ◌≤◌, Bool, not, ◌||◌, ◌&&◌, cond, List, [], ◌∷◌, map, refl, ap, ap₂, arith}
+use Rattle.std.specs.List.{All}
+use Rattle.std.proofs.lemmas.List.Elements.{All-nil, All-cons, All-head, All-tail, All-append, All-weaker}
 use Rattle.pg_assertion.specs.Formula.{Plain, top, bottom, atom, neg, both, either, implies, AllAtoms}
 use Rattle.pg_assertion.specs.Layout.{Sizes}
-use Rattle.pg_assertion.specs.StepAtom.{IsStepAtom, step_number, step_atoms}
+use Rattle.pg_assertion.specs.StepAtom.{IsStepAtom, step_atoms}
 use Rattle.pg_assertion.proofs.StepNumbers.{step_numbers_have_no_gap}
 use Rattle.pg_region.specs.Literal.{Literal, negated}
 use Rattle.pg_views.specs.Formula.{true_in}
 use Rattle.pg_tables.specs.declared.clause.StepLiteral.{StepLiteral}
 use Rattle.pg_tables.specs.Clause.{AreStepAtoms, numbered}
-use Rattle.pg_clauses.specs.Definitional.{after, literal, clauses, both_node, either_node, implies_node}
+use Rattle.pg_clauses.specs.Definitional.{after, literal, clauses}
 use Rattle.pg_clauses.specs.Truth.{literal_true, clause_true, all_true}
 use Rattle.pg_clauses.proofs.Numbers.{later}
 use Rattle.pg_layers.specs.Clauses.{top_part, after_top, by_numbers}

@@ -1,6 +1,6 @@
 -- The clauses of an entailment can be true together exactly where it does not follow.
-use Rattle.std.proofs.Common.{◌≡◌, ℕ, ◌+◌, ◌-◌, ◌<◌, ◌≤◌, Bool, true, false, not, ◌||◌, ◌&&◌, cond, ◌⊎◌, inl, inr, List, [], ◌∷◌, ◌++◌, map, refl, sym, ap, ap₂, ◌∙◌, arith}
-use Rattle.std.specs.List.{All, list_any, list_all}
+use Rattle.std.proofs.Common.{◌≡◌, ℕ, ◌<◌, ◌≤◌, Bool, true, false, not, ◌||◌, ◌&&◌, cond, ◌⊎◌, inl, inr, List, [], ◌∷◌, map, refl, sym, ap, ap₂, ◌∙◌, arith}
+use Rattle.std.specs.List.{All, list_all}
 use Rattle.std.proofs.lemmas.Bool.{cases_lt, and_parts, and_from, true≢false}
 use Rattle.std.proofs.lemmas.List.Folds.{list_all-append}
 use Rattle.std.proofs.lemmas.List.Elements.{All-nil, All-cons, All-head, All-tail, All-map, All-weaker}
@@ -20,10 +20,10 @@ use Rattle.pg_clauses.specs.Truth.{literal_true, clause_true, all_true}
 use Rattle.pg_clauses.proofs.Truths.{definitions_tell, definitions_met}
 use Rattle.pg_clauses.proofs.Numbers.{later}
 use Rattle.pg_obligations.specs.Follow.{Entailment, Follows}
-use Rattle.pg_layers.specs.Clauses.{top_part, after_top, by_number, by_numbers, first_new, top_of, clauses_of}
+use Rattle.pg_layers.specs.Clauses.{top_part, by_number, by_numbers, first_new, top_of, clauses_of}
 use Rattle.pg_layers.proofs.Formulas.{all-with, all-weaker}
 use Rattle.pg_layers.proofs.Over.{IsOver}
-use Rattle.pg_layers.proofs.Below.{AllBelow, atoms-later, given-later, clauses-below, literal-below, table-below, same_literal, same_truth, same_formula}
+use Rattle.pg_layers.proofs.Below.{atoms-later, given-later, clauses-below, literal-below, table-below, same_literal, same_truth, same_formula}
 
 module _ {T : Type 0} (val : ℕ → Bool) (number : T → ℕ) where
   -- a formula over numbers is true where it is over the atoms
@@ -111,7 +111,7 @@ module _ (val : ℕ → Bool) where
   top_tells n [] g h =
       let p = and_parts (all_true val (clauses n g)) _ (sym (list_all-append (clause_true val) (clauses n g) ((negated (literal n g) ∷ []) ∷ [])) ∙ h) in
       let u : not (literal_true val (literal n g)) ≡ true =
-          sym (negated-true val (literal n g)) ∙ sym (unit_true val (negated (literal n g))) ∙ sym (and_all (clause_true val (negated (literal n g) ∷ []))) ∙ p.1 in
+      sym (negated-true val (literal n g)) ∙ sym (unit_true val (negated (literal n g))) ∙ sym (and_all (clause_true val (negated (literal n g) ∷ []))) ∙ p.1 in
       record { givens = All-nil (λ (f : Plain ℕ). true_in val f ≡ true); goal = sym (definitions_tell n g val p.0) ∙ false_from (literal_true val (literal n g)) u }
   top_tells n (f ∷ fs) g h =
       let p = and_parts (all_true val (clauses n f)) _ (sym (list_all-append (clause_true val) (clauses n f) ((literal n f ∷ []) ∷ top_part (after n f) fs g)) ∙ h) in
@@ -132,7 +132,7 @@ top_met : (val : ℕ → Bool) (n : ℕ) (fs : List (Plain ℕ)) (g : Plain ℕ)
 top_met val n [] g h k t fails =
     let e = definitions_met n g val k in
     let u : clause_true e.0 (negated (literal n g) ∷ []) ≡ true =
-        unit_true e.0 (negated (literal n g)) ∙ negated-true e.0 (literal n g) ∙ ap not (e.1.told ∙ fails) in
+    unit_true e.0 (negated (literal n g)) ∙ negated-true e.0 (literal n g) ∙ ap not (e.1.told ∙ fails) in
     record {
       more = e.0;
       same = e.1.same;
@@ -147,7 +147,7 @@ top_met val n (f ∷ fs) g h k t fails =
     let rest = top_met e.0 (after n f) fs g (given-later n f fs others) (atoms-later n f g k) still (same_formula e.0 val n e.1.same g k ∙ fails) in
     let one : all_true rest.more (clauses n f) ≡ true = same_truth rest.more e.0 (after n f) rest.same (clauses n f) (clauses-below n f first) ∙ e.1.meets in
     let lit : clause_true rest.more (literal n f ∷ []) ≡ true =
-        unit_true rest.more (literal n f) ∙ same_literal rest.more e.0 (after n f) rest.same (literal n f) (literal-below n f first) ∙ e.1.told ∙ All-head (λ (q : Plain ℕ). true_in val q ≡ true) f fs t in
+    unit_true rest.more (literal n f) ∙ same_literal rest.more e.0 (after n f) rest.same (literal n f) (literal-below n f first) ∙ e.1.told ∙ All-head (λ (q : Plain ℕ). true_in val q ≡ true) f fs t in
     record {
       more = rest.more;
       same = λ q lt. rest.same q (omega (arith, lt, later n f)) ∙ e.1.same q lt;
@@ -232,7 +232,7 @@ module _ (l : Sizes) (e : Entailment) where
       not_false : AllTrue w e.clauses → All (λ f. true_in w f ≡ true) e.givens → true_in w e.goal ≡ false → ⊥
       not_false all given fails =
           let m = top_met (by_atoms l w) (first_new l) (map (by_number l) e.givens) (by_number l e.goal) (lows e.givens over.givens) (low e.goal over.goal)
-              (givens_true e.givens over.givens given) (same e.goal over.goal ∙ fails) in
+          (givens_true e.givens over.givens given) (same e.goal over.goal ∙ fails) in
           let base = table_agrees l (by_atoms l w) w (by_atoms-is l w) e.clauses over.clauses.are ∙ all.all in
           let more = same_truth m.more (by_atoms l w) (first_new l) m.same (by_numbers l e.clauses) (table-below l e.clauses over.clauses) ∙ base in
           none m.more (list_all-append (clause_true m.more) (top_of l e) (by_numbers l e.clauses) ∙ and_from _ _ m.meets more)

@@ -1,14 +1,12 @@
 -- Formulas over other atoms, and the new atoms and clauses that they take.
-use Rattle.std.proofs.Common.{◌≡◌, ℕ, ◌+◌, ◌-◌, ◌*◌, ◌<◌, ◌≤◌, ◌^◌, List, [], ◌∷◌, ◌++◌, length, map, refl, sym, ap, ap₂, ◌∙◌, subst, arith, length-append}
+use Rattle.std.proofs.Common.{◌≡◌, ℕ, ◌+◌, ◌*◌, ◌<◌, ◌≤◌, ◌^◌, List, [], ◌∷◌, ◌++◌, length, refl, sym, ap, ap₂, ◌∙◌, arith, length-append}
 use Rattle.pg_assertion.specs.declared.atom.ViewAtom.{ViewAtom}
 use Rattle.pg_assertion.specs.declared.layout.Side.{Side}
-use Rattle.pg_assertion.specs.declared.layout.Side.TheVariants.{Before, After}
-use Rattle.pg_assertion.specs.declared.step_atom.StepAtom.{StepAtom}
 use Rattle.pg_assertion.specs.declared.step_atom.StepAtom.TheVariants.{On}
 use Rattle.pg_assertion.specs.Formula.{Plain, top, bottom, atom, neg, both, either, implies, with_atoms, nodes, AllAtoms}
-use Rattle.pg_assertion.specs.Layout.{Sizes, IsAtom, atoms, number_on}
+use Rattle.pg_assertion.specs.Layout.{Sizes, IsAtom, number_on}
 use Rattle.pg_assertion.specs.Limits.{most_expansion_nodes}
-use Rattle.pg_assertion.specs.StepAtom.{IsStepAtom, step_number, step_atoms}
+use Rattle.pg_assertion.specs.StepAtom.{step_number, step_atoms}
 use Rattle.pg_assertion.proofs.LayoutOrder.{number_on_within}
 use Rattle.pg_region.specs.Literal.{Literal}
 use Rattle.pg_region.specs.Pieces.{total}

@@ -1,17 +1,16 @@
 -- What the emitters of the top part leave in a sink.
-use Rattle.std.proofs.Common.{◌≡◌, ℕ, ◌+◌, ◌<◌, ◌≤◌, Bool, List, [], ◌∷◌, ◌++◌, length, map, get_or, Result, Ok, Err, refl, sym, ap, ap₂, subst, ◌∙◌, arith, append_assoc}
+use Rattle.std.proofs.Common.{◌≡◌, ℕ, ◌<◌, Bool, List, [], ◌∷◌, ◌++◌, length, map, get_or, Result, refl, sym, ap₂, subst, arith, append_assoc}
 use Rattle.std.proofs.lemmas.List.{map-append}
 use Rattle.pg_program.specs.declared.point.Step.{Step}
 use Rattle.pg_program.specs.NameTable.{NameTable}
 use Rattle.pg_program.specs.NameTable as table
 use Rattle.pg_program.specs.Program.{ProgramTable}
 use Rattle.pg_assertion.specs.declared.atom.ViewAtom.{ViewAtom}
-use Rattle.pg_assertion.specs.declared.atom.ViewAtom.TheVariants.{Scalar, Last, Persist, Newest}
+use Rattle.pg_assertion.specs.declared.atom.ViewAtom.TheVariants.{Scalar, Last}
 use Rattle.pg_assertion.specs.declared.layout.Side.{Side}
-use Rattle.pg_assertion.specs.declared.layout.Side.TheVariants.{Before, After}
-use Rattle.pg_assertion.specs.declared.step_atom.StepAtom.{StepAtom}
+use Rattle.pg_assertion.specs.declared.layout.Side.TheVariants.{Before}
 use Rattle.pg_assertion.specs.Formula.{Plain}
-use Rattle.pg_assertion.specs.Layout.{Sizes, IsAtom, IsThreadNumber}
+use Rattle.pg_assertion.specs.Layout.{Sizes, IsAtom}
 use Rattle.pg_outline.specs.Outline.{OutlineTable}
 use Rattle.pg_outline.specs.Made.{IsOutline}
 use Rattle.pg_region.specs.Literal.{Literal}

@@ -1,5 +1,5 @@
 -- What each part of a load leaves.
-use Rattle.std.proofs.Common.{◌≡◌, ◌⊎◌, inl, inr, ℕ, zero, suc, ◌+◌, ◌-◌, ◌<◌, ◌≤◌, Bool, true, false, List, [], ◌∷◌, ◌++◌, Option, Some, None, length, take, drop, refl, sym, ap, ap₂, ◌∙◌, subst, append_assoc, arith, length-append}
+use Rattle.std.proofs.Common.{◌≡◌, ℕ, zero, suc, List, [], ◌∷◌, ◌++◌, Option, Some, None, length, take, refl, sym, ap, ap₂, ◌∙◌, subst, append_assoc, arith, length-append}
 use Rattle.std.proofs.lemmas.List.{append-nil}
 use Rattle.pg_program.specs.declared.point.Step.{Step}
 use Rattle.pg_assertion.specs.declared.layout.Side.TheVariants.{Before, After}
@@ -9,15 +9,15 @@ use Rattle.pg_outline.specs.Made.{IsOutline}
 use Rattle.pg_region.specs.Literal.{Literal}
 use Rattle.pg_region.specs.Pieces.{total}
 use Rattle.pg_region.specs.Region.{RegionTable, released}
-use Rattle.pg_region.specs.Sink.{Capacity, SinkView, Appended, sink_of}
+use Rattle.pg_region.specs.Sink.{Capacity, Appended, sink_of}
 use Rattle.pg_tables.specs.Steps.{IsStepOf}
 use Rattle.pg_obligations.specs.declared.obligation.Obligation.{Obligation}
 use Rattle.pg_layers.specs.Clauses.{layout_of, rules_of, by_numbers}
 use Rattle.pg_layers.specs.Layers.{side_axioms, base_of, rules_if, top_for, or_before}
-use Rattle.pg_layers.specs.Laid.{AreBounded, IsStepIf, AreMarks, AreLayers, Lies, Fit, HasRoom, IsBased, IsRuled, IsTopped}
+use Rattle.pg_layers.specs.Laid.{AreBounded, IsStepIf, AreMarks, Lies, Fit, HasRoom, IsBased, IsRuled, IsTopped}
 use Rattle.pg_layers.specs.declared.layers.Layers.{Layers}
 use Rattle.pg_layers.proofs.Formulas.{total-append}
-use Rattle.pg_layers.proofs.Sizes.{AreAtMost, side_few, base_few, step_few, rules_few, top_few}
+use Rattle.pg_layers.proofs.Sizes.{side_few, base_few, step_few, rules_few, top_few}
 
 take_all : (xs ys : List (List Literal)) (n : ℕ) → n ≡ length xs → take n (xs ++ ys) ≡ xs
 take_all [] ys zero h = refl
@@ -152,7 +152,7 @@ module _ (o : OutlineTable) where
       let q = a.pushes in
       let mine : rules_if o k'.ruled ≡ by_numbers (layout_of o) (rules_of o.program step) = ap (rules_if o) e in
       let all : r''.clauses ≡ base_of o ++ rules_if o k'.ruled =
-          a.list ∙ ap (λ (x : List (List Literal)). x ++ by_numbers (layout_of o) (rules_of o.program step)) l ∙ ap (λ (x : List (List Literal)). base_of o ++ x) (sym mine) in
+      a.list ∙ ap (λ (x : List (List Literal)). x ++ by_numbers (layout_of o) (rules_of o.program step)) l ∙ ap (λ (x : List (List Literal)). base_of o ++ x) (sym mine) in
       let long = ap (λ (x : List (List Literal)). length x) all ∙ length-append (base_of o) (rules_if o k'.ruled) in
       record {
         lies = record {

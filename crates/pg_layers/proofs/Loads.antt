@@ -1,33 +1,32 @@
 -- What a load leaves, from what its parts leave.
-use Rattle.std.proofs.Common.{◌≡◌, ◌⊎◌, inl, inr, ℕ, zero, suc, ◌+◌, ◌-◌, ◌<◌, ◌≤◌, ◌^◌, Bool, true, false, cond, List, [], ◌∷◌, ◌++◌, Option, None, Some, length, map, take, drop, get_or, refl, sym, ap, ap₂, ◌∙◌, subst, append_assoc, arith, length-append}
-use Rattle.std.specs.List.{All, Contains, slice_get}
+use Rattle.std.proofs.Common.{◌≡◌, ◌⊎◌, inl, inr, ℕ, zero, suc, ◌+◌, ◌-◌, ◌<◌, ◌≤◌, ◌^◌, List, [], ◌∷◌, ◌++◌, Option, None, Some, length, map, take, drop, get_or, refl, sym, ap, ap₂, ◌∙◌, subst, append_assoc, arith, length-append}
+use Rattle.std.specs.List.{All, slice_get}
 use Rattle.std.specs.Prelude.{slice_range}
 use Rattle.std.proofs.lemmas.List.{append-nil, map-append}
-use Rattle.std.proofs.lemmas.List.Elements.{All-nil, All-cons, All-head, All-tail, All-append, All-map, All-weaker}
+use Rattle.std.proofs.lemmas.List.Elements.{All-head, All-tail, All-append, All-map, All-weaker}
 use Rattle.std.proofs.lemmas.Option.{none-some}
 use Rattle.pg_program.specs.declared.point.Step.{Step}
 use Rattle.pg_assertion.specs.declared.layout.Side.TheVariants.{Before, After}
 use Rattle.pg_assertion.specs.declared.step_atom.StepAtom.{StepAtom}
 use Rattle.pg_assertion.specs.Formula.{Plain, AllAtoms}
 use Rattle.pg_assertion.specs.Layout.{Sizes}
-use Rattle.pg_assertion.specs.StepAtom.{IsStepAtom, step_number, step_atoms}
+use Rattle.pg_assertion.specs.StepAtom.{IsStepAtom, step_number}
 use Rattle.pg_assertion.proofs.StepNumbers.{step_numbers_have_no_gap}
 use Rattle.pg_outline.specs.Outline.{OutlineTable}
 use Rattle.pg_outline.specs.Made.{IsOutline}
 use Rattle.pg_region.specs.Literal.{Literal}
 use Rattle.pg_region.specs.Region.{RegionTable}
-use Rattle.pg_region.specs.Range.{listed, count_of, IsRange, IsWithin, Fits}
-use Rattle.pg_region.specs.Sink.{Capacity, SinkView, Appended, sink_of}
+use Rattle.pg_region.specs.Range.{listed, IsRange, IsWithin, Fits}
 use Rattle.pg_region.specs.declared.range.ClauseRange.{ClauseRange}
 use Rattle.pg_region.specs.declared.range.Loaded.{Loaded}
 use Rattle.pg_obligations.specs.declared.obligation.Obligation.{Obligation}
 use Rattle.pg_obligations.specs.declared.obligation.Obligation.TheVariants.{Fresh, Entry, EntryCrash, Local, Crash, Interfere}
 use Rattle.pg_obligations.specs.Obligations.{obligations}
 use Rattle.pg_obligations.specs.Follow.{Entailment, axioms_of}
-use Rattle.pg_layers.specs.Clauses.{layout_of, rules_of, by_number, by_numbers, first_new, after_top, top_part, top_of, clauses_of, entailment_of, obligation_clauses, obligation_atoms, obligation}
-use Rattle.pg_layers.specs.Members.{IsObligationOf, LeadsOn, step_in}
-use Rattle.pg_layers.specs.Layers.{side_axioms, base_of, rules_if, top_for, left, left_by, or_before, loaded_with, axioms_left, Loading, IsLoaded, HasPlaces}
-use Rattle.pg_layers.specs.Laid.{AreMarks, IsStepIf, Lies, IsBased, IsRuled, IsTopped, range_by, ruled_in, last_in}
+use Rattle.pg_layers.specs.Clauses.{layout_of, rules_of, by_number, by_numbers, first_new, after_top, top_of, clauses_of, entailment_of, obligation_clauses, obligation_atoms, obligation}
+use Rattle.pg_layers.specs.Members.{IsObligationOf, step_in}
+use Rattle.pg_layers.specs.Layers.{side_axioms, base_of, rules_if, top_for, or_before, loaded_with, Loading, IsLoaded, HasPlaces}
+use Rattle.pg_layers.specs.Laid.{IsStepIf, Lies, IsBased, IsRuled, IsTopped, range_by, ruled_in, last_in}
 use Rattle.pg_layers.specs.declared.layers.Layers.{Layers}
 use Rattle.pg_layers.specs.declared.layers.Laid.{Laid}
 use Rattle.pg_layers.proofs.Formulas.{all-with, all-weaker}
@@ -124,7 +123,7 @@ module _ (o : OutlineTable) (ob : Obligation) (k : Layers) (list : List (List Li
   top_slice : slice_range list k.rules_to (length list) ≡ top
   top_slice =
       let e : list ≡ (base_of o ++ rules) ++ (top ++ []) =
-          lies.is ∙ sym (append_assoc (base_of o) rules top) ∙ ap (λ (x : List (List Literal)). (base_of o ++ rules) ++ x) (sym (append-nil top)) in
+      lies.is ∙ sym (append_assoc (base_of o) rules top) ∙ ap (λ (x : List (List Literal)). (base_of o ++ rules) ++ x) (sym (append-nil top)) in
       let m = length-append (base_of o) rules in
       let r = lies.layers.marks.rules_to in
       ap (λ (x : List (List Literal)). slice_range x k.rules_to (length list)) e
@@ -185,8 +184,8 @@ clauses_low l e over =
     let g = by_number l e.goal in
     let m = after_top (first_new l) gs g in
     let lows : All (AllAtoms (λ n. n < first_new l)) gs =
-        All-map (AllAtoms (λ n. n < first_new l)) (by_number l) e.givens
-        (All-weaker (AllAtoms (IsStepAtom l)) (λ f. AllAtoms (λ n. n < first_new l) (by_number l f)) (number_low l) e.givens over.givens) in
+    All-map (AllAtoms (λ n. n < first_new l)) (by_number l) e.givens
+    (All-weaker (AllAtoms (IsStepAtom l)) (λ f. AllAtoms (λ n. n < first_new l) (by_number l f)) (number_low l) e.givens over.givens) in
     All-append (Below m) (top_of l e) (by_numbers l e.clauses) (top-below (first_new l) gs g lows (number_low l e.goal over.goal))
     (wider (first_new l) m (by_numbers l e.clauses) (after_top-later (first_new l) gs g) (table-below l e.clauses over.clauses))
 

@@ -1,8 +1,7 @@
 -- Each obligation of a program speaks of its threads, points and steps.
-use Rattle.std.proofs.Common.{◌≡◌, ℕ, zero, suc, ◌+◌, ◌-◌, ◌<◌, ◌≤◌, ◌==◌, Bool, true, false, cond, List, [], ◌∷◌, ◌++◌, length, map, Option, Some, None, refl, sym, ap, subst, ◌∙◌, arith}
-use Rattle.std.specs.List.{All, Contains, flat_map, range_with_len, slice_get}
-use Rattle.std.proofs.lemmas.List.Elements.{All-nil, All-cons, All-head, All-tail, All-append, All-map, All-weaker, All-contains}
-use Rattle.std.proofs.lemmas.Option.{none-some}
+use Rattle.std.proofs.Common.{◌≡◌, ℕ, zero, suc, ◌+◌, ◌<◌, ◌≤◌, ◌==◌, Bool, true, false, cond, List, [], ◌∷◌, ◌++◌, length, map, Option, Some, None, refl, sym, ap, subst, ◌∙◌, arith}
+use Rattle.std.specs.List.{All, Contains, flat_map, range_with_len}
+use Rattle.std.proofs.lemmas.List.Elements.{All-nil, All-cons, All-head, All-tail, All-append, All-contains}
 use Rattle.pg_program.specs.declared.point.Step.{Step}
 use Rattle.pg_program.specs.declared.point.Branch.{Branch}
 use Rattle.pg_program.specs.declared.point.Branch.TheVariants.{Plain, Yes, No}
@@ -11,12 +10,10 @@ use Rattle.pg_program.specs.Graph.{is_branch, step_of, is_test, branches}
 use Rattle.pg_program.specs.Program.{ProgramTable, points, steps_at, stmt_at}
 use Rattle.pg_program.specs.Laws.{LeadsWithin}
 use Rattle.pg_program.proofs.GraphLaws.{steps_lead_within, steps_of_statements}
-use Rattle.pg_tables.specs.Steps.{IsStepOf}
-use Rattle.pg_tables.specs.Table.{IsOneOf}
 use Rattle.pg_obligations.specs.declared.obligation.Obligation.{Obligation}
 use Rattle.pg_obligations.specs.declared.obligation.Obligation.TheVariants.{Fresh, Entry, EntryCrash, Local, Crash, Interfere}
 use Rattle.pg_obligations.specs.Obligations.{threads_of, points_of, against, of_step, of_point, of_thread, obligations}
-use Rattle.pg_layers.specs.Members.{IsPointOf, LeadsOn, IsObligationOf}
+use Rattle.pg_layers.specs.Members.{LeadsOn, IsObligationOf}
 
 -- ---- the step of a branch
 

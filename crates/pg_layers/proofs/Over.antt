@@ -1,5 +1,5 @@
 -- Tables over a layout: each of their atoms is one of the layout's.
-use Rattle.std.proofs.Common.{◌≡◌, ℕ, zero, suc, ◌+◌, ◌-◌, ◌<◌, ◌≤◌, Bool, true, false, not, ◌==◌, List, [], ◌∷◌, ◌++◌, map, refl, arith}
+use Rattle.std.proofs.Common.{ℕ, zero, suc, ◌+◌, ◌<◌, Bool, true, false, List, [], ◌∷◌, ◌++◌, arith}
 use Rattle.std.specs.List.{All, flat_map, range_with_len}
 use Rattle.std.proofs.lemmas.List.Elements.{All-nil, All-cons, All-append, All-map, All-weaker}
 use Rattle.pg_assertion.specs.declared.atom.ViewAtom.{ViewAtom}
@@ -9,9 +9,9 @@ use Rattle.pg_assertion.specs.StepAtom.{IsStepAtom}
 use Rattle.pg_tables.specs.declared.clause.StepLiteral.{StepLiteral}
 use Rattle.pg_tables.specs.declared.clause.Case.{Case}
 use Rattle.pg_tables.specs.declared.clause.Case.TheVariants.{Succeeds, Fails}
-use Rattle.pg_tables.specs.Clause.{AreStepAtoms, implies, premise}
+use Rattle.pg_tables.specs.Clause.{AreStepAtoms, premise}
 use Rattle.pg_tables.specs.Table.{when, under, per_thread, per_location, per_value, per_scalar, exactly_one, IsOneOf}
-use Rattle.pg_tables.specs.Shapes.{before, after, frame, becomes, becomes_both, gains, gains_both}
+use Rattle.pg_tables.specs.Shapes.{frame, becomes, becomes_both, gains, gains_both}
 use Rattle.pg_tables.proofs.OneValue.{some-atoms}
 
 pub record IsOver (l : Sizes) (cs : List (List StepLiteral)) : Type 0 where

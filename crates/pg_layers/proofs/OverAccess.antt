@@ -1,8 +1,8 @@
 -- The access rules of a step are over its layout.
-use Rattle.std.proofs.Common.{◌≡◌, ℕ, suc, zero, ◌+◌, ◌<◌, ◌≤◌, ◌==◌, ◌&&◌, ◌||◌, not, Bool, true, false, List, [], ◌∷◌, ◌++◌, Option, Some, None, map, length, cond, refl, sym, subst, arith}
+use Rattle.std.proofs.Common.{◌≡◌, ℕ, ◌<◌, ◌==◌, ◌&&◌, ◌||◌, Bool, true, false, List, [], ◌∷◌, ◌++◌, Option, Some, None, length, cond, refl, sym, subst, arith}
 use Rattle.std.specs.Prelude.{replicate, slice_set}
 use Rattle.std.specs.List.{All}
-use Rattle.std.proofs.lemmas.List.Elements.{All-nil, All-cons, All-head, All-tail, All-push, All-set}
+use Rattle.std.proofs.lemmas.List.Elements.{All-nil, All-head, All-tail, All-push, All-set}
 use Rattle.pg_assertion.specs.declared.atom.ViewAtom.{ViewAtom}
 use Rattle.pg_assertion.specs.declared.atom.ViewAtom.TheVariants.{Scalar, Last, Read, Persist, Async, Then, Newest, Ordered, Fenced}
 use Rattle.pg_assertion.specs.declared.layout.Side.{Side}
@@ -25,22 +25,22 @@ use Rattle.pg_program.specs.Expr.{reads, value, value_step, test_holds}
 use Rattle.pg_program.specs.Limits.{most_scalars}
 use Rattle.pg_program.specs.NameTable.{NameTable}
 use Rattle.pg_program.specs.Program.{ProgramTable, IsProgram, stmt_at}
-use Rattle.pg_program.specs.Words.{is_in, outside_in, bracket_scalars, locations_in}
+use Rattle.pg_program.specs.Words.{outside_in, bracket_scalars, locations_in}
 use Rattle.pg_program.proofs.ExprLemmas.{All-front, All-behind}
 use Rattle.pg_program.proofs.ProgramLemmas.{has_values, stmt_of}
 use Rattle.pg_machine.proofs.Uses.{get-below}
 use Rattle.pg_tables.specs.declared.clause.StepLiteral.{StepLiteral}
 use Rattle.pg_tables.specs.declared.clause.Case.TheVariants.{Succeeds, Fails}
-use Rattle.pg_tables.specs.Clause.{AreStepAtoms, implies, yes, no}
+use Rattle.pg_tables.specs.Clause.{implies, yes, no}
 use Rattle.pg_tables.specs.Steps.{IsStepOf, same_line}
 use Rattle.pg_tables.specs.Shapes.{before, after, only_where, frame, becomes}
 use Rattle.pg_tables.specs.Table.{IsOneOf, under}
 use Rattle.pg_rules_access.specs.Atoms.{scalar_rows, access_rows}
-use Rattle.pg_rules_access.specs.Values.{per_tuple, in_order, tuples, value_rules, expects_last, says_test, taken, test_rules, bracket_side, assign_rules, bracket_rules}
+use Rattle.pg_rules_access.specs.Values.{per_tuple, in_order, tuples, value_rules, says_test, taken, test_rules, bracket_rules}
 use Rattle.pg_rules_access.specs.Store.{store, store_last, store_read, store_then, store_newest, store_ordered, store_fenced}
 use Rattle.pg_rules_access.specs.Load.{assign, assign_scalar, load, load_scalar, load_read, load_then, load_view, read_then}
 use Rattle.pg_rules_access.specs.Fence.{mfence, sfence, fence_loses, fence_view}
-use Rattle.pg_rules_access.specs.Cas.{cas, if_stored, cas_scalar, own_read, cas_read, own_then, cas_then, cas_view, own_fenced, cas_fenced}
+use Rattle.pg_rules_access.specs.Cas.{cas, if_stored, cas_scalar, cas_read, own_then, cas_then, cas_view, own_fenced, cas_fenced}
 use Rattle.pg_rules_access.specs.Access.{act_values, act_row, rules, rules_of, access}
 use Rattle.pg_rules_access.proofs.TupleLists.{said_atoms, in_order_known, zeros_below}
 use Rattle.pg_layers.proofs.Over.{IsOver, written_out, over-none, over-clause, over-append, over-when, over-under, over-threads, over-locations, over-values, over-scalars, over-exactly_one, over-frame, over-becomes, over-becomes_both, over-gains, over-gains_both}

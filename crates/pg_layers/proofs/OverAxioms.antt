@@ -1,5 +1,5 @@
 -- The axioms of a side are over its layout.
-use Rattle.std.proofs.Common.{◌≡◌, ℕ, zero, suc, ◌+◌, ◌<◌, ◌≤◌, List, [], ◌∷◌, ◌++◌, map, arith}
+use Rattle.std.proofs.Common.{ℕ, zero, suc, ◌+◌, ◌<◌, List, [], ◌∷◌, map, arith}
 use Rattle.std.specs.List.{All, flat_map, range_with_len}
 use Rattle.std.proofs.lemmas.List.Elements.{All-nil, All-cons, All-head, All-tail, All-append}
 use Rattle.pg_assertion.specs.declared.layout.Side.{Side}
@@ -7,7 +7,6 @@ use Rattle.pg_assertion.specs.declared.step_atom.StepAtom.TheVariants.{On}
 use Rattle.pg_assertion.specs.declared.atom.ViewAtom.TheVariants.{Scalar, Last, Persist}
 use Rattle.pg_assertion.specs.Layout.{Sizes, IsAtom, IsThreadNumber, threads}
 use Rattle.pg_views.specs.Laws.{ValueSet, readable, persistent, pending, is_in}
-use Rattle.pg_tables.specs.declared.clause.StepLiteral.{StepLiteral}
 use Rattle.pg_tables.specs.Table.{IsOneOf}
 use Rattle.pg_axioms.specs.Axioms.{rule, each_pair, value_sets, not_both_apart, axioms}
 use Rattle.pg_layers.proofs.Over.{IsOver, written_out, over-none, over-append, over-when, over-threads, over-locations, over-values, over-scalars, over-exactly_one}

@@ -1,5 +1,5 @@
 -- The persistency rules of a step are over its layout.
-use Rattle.std.proofs.Common.{◌≡◌, ℕ, ◌<◌, ◌≤◌, ◌==◌, Bool, true, false, List, [], ◌∷◌, Option, Some, None, length, refl, arith}
+use Rattle.std.proofs.Common.{ℕ, ◌<◌, ◌==◌, Bool, true, false, List, Option, Some, None, length}
 use Rattle.pg_assertion.specs.declared.atom.ViewAtom.{ViewAtom}
 use Rattle.pg_assertion.specs.declared.atom.ViewAtom.TheVariants.{Persist, Async}
 use Rattle.pg_assertion.specs.Layout.{Sizes, sizes, IsAtom, IsThreadNumber}
@@ -8,14 +8,13 @@ use Rattle.pg_program.specs.declared.syntax.Stmt.{Stmt, out-Stmt}
 use Rattle.pg_program.specs.declared.syntax.Act.{Act, out-Act}
 use Rattle.pg_program.specs.declared.syntax.Act.TheOpen.{Act-F, Assign, Store, Load, Cas, Mfence, Sfence, Flush, Flushopt, If, While}
 use Rattle.pg_program.specs.NameTable.{NameTable}
-use Rattle.pg_program.specs.Program.{ProgramTable, IsProgram, stmt_at}
+use Rattle.pg_program.specs.Program.{ProgramTable, stmt_at}
 use Rattle.pg_tables.specs.declared.clause.StepLiteral.{StepLiteral}
-use Rattle.pg_tables.specs.declared.clause.Case.TheVariants.{Succeeds, Fails}
 use Rattle.pg_tables.specs.Shapes.{frame}
 use Rattle.pg_tables.specs.Steps.{IsStepOf, same_line}
 use Rattle.pg_rules_persist.specs.Rows.{store, fence, flush, flushopt, cas, store_gains, fence_async, flush_persist, flush_async, flushopt_async, cas_persist, cas_async}
 use Rattle.pg_rules_persist.specs.Persist.{act_row, persist_rows, rules_of, persist}
-use Rattle.pg_layers.proofs.Over.{IsOver, written_out, over-none, over-append, over-under, over-threads, over-locations, over-values, over-frame, over-becomes, over-becomes_both, over-gains}
+use Rattle.pg_layers.proofs.Over.{IsOver, written_out, over-none, over-append, over-threads, over-locations, over-values, over-frame, over-becomes, over-becomes_both, over-gains}
 use Rattle.pg_layers.proofs.OverAxioms.{is_thread, is_below}
 
 module _ (l : Sizes) where
@@ -80,8 +79,19 @@ module _ (l : Sizes) where
     swapped_next false true t z v i h k =
         let a : IsAtom l (Async t z v) = (i, h, k) in
         let b : IsAtom l (Async s z v) = (own, h, k) in
-        written_out l ((tt, (a, (a, (k, tt)))), ((tt, (a, (b, (k, tt)))), ((tt, (a, (b, (a, tt)))), ((tt, (k, (a, tt))),
-        ((tt, (a, (a, tt))), ((tt, (a, (b, tt))), ((tt, (a, (b, (a, tt)))), tt)))))))
+        written_out l (
+          (tt, (a, (a, (k, tt)))),
+          (
+            (tt, (a, (b, (k, tt)))),
+            (
+              (tt, (a, (b, (a, tt)))),
+              (
+                (tt, (k, (a, tt))),
+                ((tt, (a, (a, tt))), ((tt, (a, (b, tt))), ((tt, (a, (b, (a, tt)))), tt))),
+              ),
+            ),
+          ),
+        )
     swapped_next false false t z v i h k = over-becomes_both l (i, h, k) (i, h, k) (own, h, k)
 
     cas_over : (x : ℕ) → IsOver l (persist_rows l (cas s x))

@@ -1,5 +1,5 @@
 -- The formulas of an outline: they are over its layout, and small; and so is what an obligation says.
-use Rattle.std.proofs.Common.{◌≡◌, ℕ, zero, suc, ◌+◌, ◌-◌, ◌*◌, ◌<◌, ◌≤◌, ◌==◌, Bool, true, false, not, cond, List, [], ◌∷◌, ◌++◌, length, map, get_or, Option, Some, None, refl, sym, ap, subst, ◌∙◌, arith}
+use Rattle.std.proofs.Common.{◌≡◌, ℕ, zero, suc, ◌+◌, ◌-◌, ◌<◌, ◌≤◌, ◌==◌, Bool, true, false, not, cond, List, [], ◌∷◌, length, map, get_or, Some, None, refl, sym, arith}
 use Rattle.std.specs.List.{All, flat_map, filter, range_with_len}
 use Rattle.std.specs.Prelude.{nat_le}
 use Rattle.std.proofs.lemmas.Bool.{leb-true}
@@ -7,7 +7,6 @@ use Rattle.std.proofs.lemmas.Option.{none-some}
 use Rattle.std.proofs.lemmas.List.Elements.{All-nil, All-cons, All-head, All-tail, All-append, All-map, All-weaker}
 use Rattle.pg_program.specs.declared.point.Step.{Step}
 use Rattle.pg_program.specs.NameTable.{initial}
-use Rattle.pg_program.specs.Program.{ProgramTable, IsProgram}
 use Rattle.pg_program.proofs.ProgramLemmas.{has_values, initial_inside}
 use Rattle.pg_tables.specs.Steps.{IsStepOf}
 use Rattle.pg_assertion.specs.declared.atom.ViewAtom.{ViewAtom}
@@ -19,24 +18,22 @@ use Rattle.pg_assertion.specs.declared.step_atom.StepAtom.TheVariants.{On}
 use Rattle.pg_assertion.specs.Atom.{raw_of, RawDeclared}
 use Rattle.pg_assertion.specs.Expansion.{expansion}
 use Rattle.pg_assertion.specs.Formula.{Plain, atom, neg, bottom, nodes, AllAtoms, with_atoms}
-use Rattle.pg_assertion.specs.Layout.{Sizes, sizes, IsAtom, IsThreadNumber, values, scalars, locations, threads}
+use Rattle.pg_assertion.specs.Layout.{Sizes, IsAtom, values, locations}
 use Rattle.pg_assertion.specs.StepAtom.{IsStepAtom}
 use Rattle.pg_outline.specs.Outline.{OutlineTable, note_at, draft_of, IsSmall}
-use Rattle.pg_outline.specs.declared.fault.OutlineFault.{OutlineFault}
 use Rattle.pg_outline.specs.declared.fault.OutlineFault.TheVariants.{CrashNodes}
 use Rattle.pg_outline.specs.Fault.{locations_fault, size_fault, numbers_fault, first_of}
 use Rattle.pg_outline.specs.Limits.{most_expansion_nodes, most_nodes}
 use Rattle.pg_outline.specs.Made.{IsOutline}
-use Rattle.pg_outline.specs.Speaks.{IsOver}
 use Rattle.pg_outline.proofs.Parts.{both_none}
 use Rattle.pg_outline.proofs.Speaks.{pre_speaks, notes_speak, expansion_speaks}
 use Rattle.pg_obligations.specs.declared.obligation.Obligation.{Obligation}
 use Rattle.pg_obligations.specs.declared.obligation.Obligation.TheVariants.{Fresh, Entry, EntryCrash, Local, Crash, Interfere}
-use Rattle.pg_obligations.specs.Follow.{on, axioms_of, crash_of, fresh_values, of_state, across}
+use Rattle.pg_obligations.specs.Follow.{on, crash_of, fresh_values, of_state, across}
 use Rattle.pg_layers.specs.Clauses.{layout_of, rules_of, entailment_of}
-use Rattle.pg_layers.specs.Members.{IsObligationOf, LeadsOn}
+use Rattle.pg_layers.specs.Members.{IsObligationOf}
 use Rattle.pg_layers.specs.Top.{IsPart}
-use Rattle.pg_layers.proofs.Formulas.{nodes-with, all-with, all-weaker}
+use Rattle.pg_layers.proofs.Formulas.{nodes-with, all-with}
 use Rattle.pg_layers.proofs.Over as table
 use Rattle.pg_layers.proofs.OverAxioms.{axioms_over}
 use Rattle.pg_layers.proofs.OverPersist.{persist_over}

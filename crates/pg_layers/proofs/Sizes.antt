@@ -1,11 +1,9 @@
 -- How large the parts of an obligation's clauses are, and that they fit in.
-use Rattle.std.proofs.Common.{◌≡◌, ℕ, zero, suc, ◌+◌, ◌-◌, ◌*◌, ◌<◌, ◌≤◌, Bool, true, false, nat_le, nat_lt, ◌&&◌, List, [], ◌∷◌, ◌++◌, length, map, Option, Some, None, refl, sym, ap, subst, ◌∙◌, arith, length-append}
+use Rattle.std.proofs.Common.{◌≡◌, ℕ, suc, ◌+◌, ◌*◌, ◌<◌, ◌≤◌, List, [], ◌∷◌, ◌++◌, length, Option, Some, None, refl, sym, ap, ◌∙◌, arith, length-append}
 use Rattle.std.proofs.lemmas.Bool.{le-leb, lt-ltb, and_from, true≢false}
 use Rattle.std.proofs.lemmas.List.{length-map}
 use Rattle.pg_program.specs.declared.point.Step.{Step}
 use Rattle.pg_program.specs.NameTable.{NameTable}
-use Rattle.pg_program.specs.NameTable as table
-use Rattle.pg_program.specs.Program.{ProgramTable, IsProgram}
 use Rattle.pg_assertion.specs.declared.atom.ViewAtom.{ViewAtom}
 use Rattle.pg_assertion.specs.declared.layout.Side.{Side}
 use Rattle.pg_assertion.specs.declared.layout.Side.TheVariants.{Before, After}
@@ -17,7 +15,7 @@ use Rattle.pg_outline.specs.Made.{IsOutline}
 use Rattle.pg_region.specs.Literal.{Literal}
 use Rattle.pg_region.specs.Pieces.{total}
 use Rattle.pg_region.specs.Region.{RegionTable}
-use Rattle.pg_region.specs.Sink.{Capacity, SinkView, Appended, Stopped, takes_in, sink_of}
+use Rattle.pg_region.specs.Sink.{Capacity, SinkView, Stopped, takes_in, sink_of}
 use Rattle.pg_tables.specs.declared.clause.StepLiteral.{StepLiteral}
 use Rattle.pg_tables.specs.Bound.{AreWithin, AreFew, largest}
 use Rattle.pg_tables.specs.Clause.{numbered}
@@ -28,10 +26,10 @@ use Rattle.pg_rules_persist.specs.Persist.{persist}
 use Rattle.pg_obligations.specs.declared.obligation.Obligation.{Obligation}
 use Rattle.pg_obligations.specs.declared.obligation.Obligation.TheVariants.{Fresh, Entry, EntryCrash, Local, Crash, Interfere}
 use Rattle.pg_obligations.specs.Follow.{on, crash_of, axioms_of}
-use Rattle.pg_layers.specs.Clauses.{top_part, by_number, by_numbers, first_new, top_of, layout_of, rules_of, entailment_of}
-use Rattle.pg_layers.specs.Needs.{enough_words, enough_spans, most_top_nodes}
+use Rattle.pg_layers.specs.Clauses.{top_part, by_number, by_numbers, first_new, layout_of, rules_of}
+use Rattle.pg_layers.specs.Needs.{most_top_nodes}
 use Rattle.pg_layers.specs.Layers.{side_axioms, base_of, rules_if, top_for}
-use Rattle.pg_layers.specs.Laid.{AreBounded, IsStepIf, Fit, HasRoom}
+use Rattle.pg_layers.specs.Laid.{AreBounded, IsStepIf, Fit}
 use Rattle.pg_layers.specs.Top.{fresh_units}
 use Rattle.pg_layers.proofs.Formulas.{total-append}
 use Rattle.pg_layers.proofs.Parts.{pre_small, note_few, crash_part}

@@ -1,8 +1,8 @@
 -- The top part of an obligation: its clauses, its size, and the new atoms that it takes.
-use Rattle.std.proofs.Common.{◌≡◌, ℕ, zero, suc, ◌+◌, ◌-◌, ◌*◌, ◌<◌, ◌≤◌, ◌==◌, Bool, true, false, not, cond, List, [], ◌∷◌, ◌++◌, length, map, get_or, refl, sym, ap, ap₂, ◌∙◌, arith, append_assoc, length-append}
-use Rattle.std.specs.List.{All, flat_map, filter, range_with_len}
+use Rattle.std.proofs.Common.{◌≡◌, ℕ, zero, suc, ◌+◌, ◌-◌, ◌*◌, ◌≤◌, ◌==◌, Bool, true, false, not, cond, List, [], ◌∷◌, ◌++◌, length, map, get_or, refl, sym, ap, ◌∙◌, arith, append_assoc, length-append}
+use Rattle.std.specs.List.{flat_map, filter, range_with_len}
 use Rattle.std.proofs.lemmas.List.{append-nil, map-append}
-use Rattle.pg_program.specs.NameTable.{NameTable, initial}
+use Rattle.pg_program.specs.NameTable.{initial}
 use Rattle.pg_program.specs.Program.{ProgramTable}
 use Rattle.pg_assertion.specs.declared.atom.ViewAtom.{ViewAtom}
 use Rattle.pg_assertion.specs.declared.atom.ViewAtom.TheVariants.{Scalar, Last, Persist, Newest}
@@ -11,7 +11,7 @@ use Rattle.pg_assertion.specs.declared.layout.Side.TheVariants.{Before, After}
 use Rattle.pg_assertion.specs.declared.step_atom.StepAtom.{StepAtom}
 use Rattle.pg_assertion.specs.declared.step_atom.StepAtom.TheVariants.{On}
 use Rattle.pg_assertion.specs.Formula.{Plain, atom, neg, nodes, with_atoms}
-use Rattle.pg_assertion.specs.Layout.{Sizes, sizes, values, scalars, locations, threads}
+use Rattle.pg_assertion.specs.Layout.{Sizes, sizes, values, locations}
 use Rattle.pg_assertion.specs.StepAtom.{step_number, step_atoms}
 use Rattle.pg_outline.specs.Outline.{OutlineTable, note_at}
 use Rattle.pg_region.specs.Literal.{Literal, negated}
@@ -23,9 +23,9 @@ use Rattle.pg_clauses.specs.Definitional.{after, literal, clauses}
 use Rattle.pg_obligations.specs.declared.obligation.Obligation.{Obligation}
 use Rattle.pg_obligations.specs.declared.obligation.Obligation.TheVariants.{Fresh, Entry, EntryCrash, Local, Crash, Interfere}
 use Rattle.pg_obligations.specs.Follow.{on, crash_of, fresh_values}
-use Rattle.pg_layers.specs.Clauses.{top_part, after_top, by_number, by_numbers, first_new, top_of, atoms_of, layout_of, entailment_of, obligation_atoms}
+use Rattle.pg_layers.specs.Clauses.{top_part, after_top, by_number, by_numbers, first_new, top_of, layout_of, entailment_of, obligation_atoms}
 use Rattle.pg_layers.specs.Top.{taken, new_in, fresh_units}
-use Rattle.pg_layers.proofs.Formulas.{after-taken, taken-with, with_both, nodes-with, clauses-few, literals-few, total-append}
+use Rattle.pg_layers.proofs.Formulas.{after-taken, taken-with, nodes-with, clauses-few, literals-few, total-append}
 
 -- ---- what is given of the fresh state is given by units alone
 

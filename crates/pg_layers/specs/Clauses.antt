@@ -1,6 +1,6 @@
 -- The clauses of an obligation, over the numbers of its atoms. Their numbers, from 1 on, are their places in this list: the top part,
 -- which says what is given and the opposite of the goal; the rules of the step, where there is one; and the axioms of each side.
-use Rattle.std.specs.Prelude.{ℕ, ◌+◌, ◌-◌, List, [], ◌∷◌, ◌++◌, Option, Some, None, length, map, slice_index_or}
+use Rattle.std.specs.Prelude.{ℕ, ◌+◌, ◌-◌, List, [], ◌∷◌, ◌++◌, None, length, map, slice_index_or}
 use Rattle.pg_program.specs.declared.point.Step.{Step}
 use Rattle.pg_program.specs.Program.{ProgramTable}
 use Rattle.pg_assertion.specs.declared.step_atom.StepAtom.{StepAtom}

@@ -1,11 +1,11 @@
 -- What the parts of a load leave.
-use Rattle.std.specs.Prelude.{◌≡◌, ◌⊎◌, ℕ, ◌+◌, ◌≤◌, List, [], ◌++◌, Option, Some, None, length}
+use Rattle.std.specs.Prelude.{◌≡◌, ℕ, ◌+◌, ◌≤◌, List, [], ◌++◌, Option, Some, None, length}
 use Rattle.pg_program.specs.declared.point.Step.{Step}
 use Rattle.pg_outline.specs.Outline.{OutlineTable}
 use Rattle.pg_region.specs.Literal.{Literal}
 use Rattle.pg_region.specs.Pieces.{total}
 use Rattle.pg_region.specs.Region.{RegionTable}
-use Rattle.pg_region.specs.Sink.{Capacity, sink_of}
+use Rattle.pg_region.specs.Sink.{sink_of}
 use Rattle.pg_region.specs.declared.range.ClauseRange.{ClauseRange}
 use Rattle.pg_obligations.specs.declared.obligation.Obligation.{Obligation}
 use Rattle.pg_assertion.specs.declared.layout.Side.{Side}
@@ -17,7 +17,7 @@ use Rattle.pg_rules_access.specs.Bound.{most_access_rules_2, most_access_literal
 use Rattle.pg_rules_persist.specs.Persist.{persist}
 use Rattle.pg_rules_persist.specs.Bound.{most_persist_2, most_persist_literals_2}
 use Rattle.pg_obligations.specs.Follow.{axioms_of}
-use Rattle.pg_layers.specs.Layers.{side_axioms, base_of, rules_if, top_for, left_by, or_before, axioms_left}
+use Rattle.pg_layers.specs.Layers.{side_axioms, base_of, rules_if, top_for, or_before, axioms_left}
 use Rattle.pg_layers.specs.Needs.{enough_words, enough_spans}
 use Rattle.pg_layers.specs.declared.layers.Layers.{Layers}
 use Rattle.pg_layers.specs.declared.layers.Laid.{Laid}

@@ -5,7 +5,7 @@ use Rattle.pg_assertion.specs.declared.layout.Side.TheVariants.{Before, After}
 use Rattle.pg_outline.specs.Outline.{OutlineTable}
 use Rattle.pg_region.specs.Literal.{Literal}
 use Rattle.pg_region.specs.Region.{RegionTable}
-use Rattle.pg_region.specs.Sink.{Capacity, sink_of}
+use Rattle.pg_region.specs.Sink.{sink_of}
 use Rattle.pg_region.specs.Range.{listed, Fits}
 use Rattle.pg_region.specs.declared.range.ClauseRange.{ClauseRange}
 use Rattle.pg_region.specs.declared.range.Loaded.{Loaded}

@@ -1,5 +1,5 @@
 -- What the obligations of a program are of.
-use Rattle.std.specs.Prelude.{◌≡◌, ℕ, ◌≤◌, length, Option, Some, None}
+use Rattle.std.specs.Prelude.{ℕ, ◌≤◌, length, Option, Some, None}
 use Rattle.pg_program.specs.declared.point.Step.{Step}
 use Rattle.pg_program.specs.Program.{ProgramTable, points}
 use Rattle.pg_tables.specs.Steps.{IsStepOf}

@@ -1,5 +1,5 @@
 -- How much room the clauses of an obligation need.
-use Rattle.std.specs.Prelude.{◌≡◌, ℕ, ◌+◌, ◌*◌, ◌≤◌, All, Contains, map, List}
+use Rattle.std.specs.Prelude.{ℕ, ◌+◌, ◌*◌, ◌≤◌, All, Contains, map, List}
 use Rattle.pg_assertion.specs.Limits.{most_nodes, most_expansion_nodes}
 use Rattle.pg_axioms.specs.Bound.{most_axioms_2, most_axiom_literals_2}
 use Rattle.pg_rules_access.specs.Bound.{most_access_rules_2, most_access_literals_2}

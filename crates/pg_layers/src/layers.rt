@@ -43,12 +43,7 @@ pub struct Laid {
 }
 
 /// Lays the axioms of both sides, unless they lie there.
-pub fn with_axioms(
-    o: &Outline,
-    layout: &Layout,
-    laid: Option<Laid>,
-    region: &mut Region,
-) -> Layers
+pub fn with_axioms(o: &Outline, layout: &Layout, laid: Option<Laid>, region: &mut Region) -> Layers
     requires layout { layout.now ≡ layout_of o.now }
     requires kept { AreKept o.now laid }
     requires laid { region.old.clauses ≡ left_by o.now (ruled_in laid) (last_in laid) }
@@ -154,13 +149,7 @@ pub fn with_rules(
 }
 
 /// Lays the rules of this step, unless they lie there, and takes away what lay on them.
-fn with_rules_of(
-    o: &Outline,
-    layout: &Layout,
-    k: Layers,
-    step: Step,
-    region: &mut Region,
-) -> Layers
+fn with_rules_of(o: &Outline, layout: &Layout, k: Layers, step: Step, region: &mut Region) -> Layers
     requires layout { layout.now ≡ layout_of o.now }
     requires step { IsStepOf o.now.program step }
     requires lies { (rest : List (List Literal)) × Lies o.now k rest region.old.clauses }

@@ -30,6 +30,7 @@ pub struct RegionNeeds {
 /// Room for the axioms of both sides, the rules of a step and a top part, in either version of the language: so many words and
 /// spans. What of them a region does not use is never touched.
 const ENOUGH_WORDS: u32 = 546_668;
+
 const ENOUGH_SPANS: u32 = 181_266;
 
 /// Loads obligations of an outline on a region, one after the other, and leaves what the next one needs too. Contracts see the

@@ -12,7 +12,7 @@ ghost use Rattle.pg_layers.specs.Clauses.{layout_of, rules_of, by_numbers, first
 ghost use Rattle.pg_layers.specs.Members.{IsPointOf, IsObligationOf};
 ghost use Rattle.pg_layers.specs.Top.{IsPart};
 
-use crate::fresh_state::{AllNewest, AllInitial, NoOther, AllZero};
+use crate::fresh_state::{AllInitial, AllNewest, AllZero, NoOther};
 use crate::top::{offer_goal, offer_one, offer_three, offer_two};
 use pg_assertion::{Formula, Layout, Side, ViewAtom};
 use pg_axioms::axioms;

@@ -1,4 +1,4 @@
-use Rattle.std.proofs.Common.{◌≡◌, ◌⊎◌, inl, inr, ℕ, ◌+◌, ◌-◌, ◌<◌, ◌≤◌, map, length, sym, ap, ◌∙◌, arith}
+use Rattle.std.proofs.Common.{◌≡◌, ◌⊎◌, inl, inr, ◌+◌, ◌-◌, ◌<◌, ◌≤◌, map, length, sym, ap, ◌∙◌, arith}
 use Rattle.std.specs.List.{slice_get}
 use Rattle.std.proofs.lemmas.List.{length-map}
 use Rattle.pg_outline.specs.Outline.{OutlineTable}
@@ -19,10 +19,10 @@ loop-i-preserved c =
     let o = c.args.o.now in
     let at = ap (λ (t : OutlineTable). slice_get (obligations t.program) (c.loop-i.i + 1 - 1)) (sym c.of-obligations.ensures) ∙ c.shape.ensures in
     let by : ((c.loop-i.most < c.atoms_of-atoms.result) × (c.if-atoms-most.most ≡ c.atoms_of-atoms.result)) ⊎ ((c.atoms_of-atoms.result ≤ c.loop-i.most) × (c.if-atoms-most.most ≡ c.loop-i.most)) =
-        elim c.if-atoms-most.branch [
-          | then-atoms-most w ↦ inl (omega (arith, w.if-atoms-most.true), w.most-is)
-          | else-atoms-most w ↦ inr (omega (arith, w.if-atoms-most.false), w.most-is)
-        ] in
+    elim c.if-atoms-most.branch [
+      | then-atoms-most w ↦ inl (omega (arith, w.if-atoms-most.true), w.most-is)
+      | else-atoms-most w ↦ inr (omega (arith, w.if-atoms-most.false), w.most-is)
+    ] in
     one_more (obligation_atoms o) (obligations o.program) (c.loop-i.i + 1 - 1) c.loop-i.i c.loop-i.most c.atoms_of-atoms.result c.if-atoms-most.most c.shape.result at (omega arith)
     c.atoms_of-atoms.ensures.atoms c.loop-i.invariant by
 

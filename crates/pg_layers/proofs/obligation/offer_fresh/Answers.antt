@@ -8,11 +8,16 @@ use Rattle.pg_layers.proofs.obligation.offer_fresh.Goals as goal
 pub offer-requires : goal.offer-requires
 offer-requires g c =
     let l = c.args.layout.now in
-    let f = fresh_fits c.args.o.now l c.names-names.result.now c.program.ensures.made c.requires.layout (c.names-names.ensures.names ∙ ap (λ p. p.names) c.program.ensures.program) in
-    (λ k o. f.zero k (is_below l.scalars k o),
-    (λ k o. (f.initial k (is_below l.locations k o), f.declared),
-    (λ t p x o. (is_thread l t p, is_below l.locations x o),
-    λ x o v p. ((is_below l.locations x o, is_below l.domain v p), f.inside x, f.declared))))
+    let f = fresh_fits c.args.o.now l c.names-names.result.now c.program.ensures.made c.requires.layout (c.names-names.ensures.names ∙ ap (λ p. p.names) c.program.ensures.program) in (
+      λ k o. f.zero k (is_below l.scalars k o),
+      (
+        λ k o. (f.initial k (is_below l.locations k o), f.declared),
+        (
+          λ t p x o. (is_thread l t p, is_below l.locations x o),
+          λ x o v p. ((is_below l.locations x o, is_below l.domain v p), f.inside x, f.declared),
+        ),
+      ),
+    )
 
 pub returns-in_err-offer : goal.returns-in_err-offer
 returns-in_err-offer g c =

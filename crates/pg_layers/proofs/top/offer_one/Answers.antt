@@ -1,4 +1,4 @@
-use Rattle.std.proofs.Common.{[], ◌∷◌}
+use Rattle.std.proofs.Common.{[]}
 use Rattle.std.proofs.lemmas.Result.{err_from_is_err_and}
 use Rattle.pg_assertion.specs.Formula.{plain}
 use Rattle.pg_assertion.specs.declared.layout.Side.TheVariants.{Before}
