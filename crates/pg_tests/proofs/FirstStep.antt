@@ -1,7 +1,3 @@
--- The first step from the first point of a program is a step of it.
-use Rattle.std.proofs.Common.{◌≡◌, ℕ, ◌≤◌, true, cond, List, [], ◌∷◌, length, slice_index_or, Some, refl, sym, ap, ap₂, subst, ◌∙◌, arith}
-use Rattle.std.specs.List.{All}
-use Rattle.std.proofs.lemmas.List.Elements.{All-head}
 -- The first of the steps from a point is a step of the program.
 use Rattle.std.proofs.Common.{◌≡◌, ℕ, ◌≤◌, Bool, true, cond, List, [], ◌∷◌, length, get_or, Some, refl, sym, ap, ap₂, subst, ◌∙◌, arith}
 use Rattle.std.proofs.lemmas.List.Elements.{All-head, All-same}
@@ -14,35 +10,22 @@ use Rattle.pg_program.specs.Program.{ProgramTable, points, steps_at}
 use Rattle.pg_program.proofs.GraphLaws.{steps_lead_within}
 use Rattle.pg_tables.specs.Steps.{IsStepOf}
 
-same_branch : (b : Branch) → is_branch b b ≡ true
-same_branch Plain = refl
-same_branch Yes = refl
-same_branch No = refl
-
-pub first_is : (p : ProgramTable) (steps : List Step) (d : Step) → 1 ≤ length p.threads → 1 ≤ length steps → steps ≡ steps_at p 1 1 → IsStepOf p (slice_index_or steps 0 d)
-first_is p [] d some long e = absurd (omega (arith, long))
-first_is p (step ∷ rest) d some long e =
-    let all = subst (All (LeadsWithin 1 1 (points p 1))) (sym e) (steps_lead_within p 1 1 (omega arith)) in
-    let within = All-head (LeadsWithin 1 1 (points p 1)) step rest all in
-    let list : steps_at p step.thread step.point ≡ step ∷ rest = ap₂ (λ (t k : ℕ). steps_at p t k) within.thread within.point ∙ sym e in
-    let ends : 1 ≤ points p step.thread = omega arith in
-    record {
-      thread = (omega (arith, within.thread), omega (arith, within.thread, some));
-      point = (omega (arith, within.point), omega (arith, within.point, ends));
-      leads = ap (step_of step.branch) list ∙ ap (λ b. cond b (Some step) (step_of step.branch rest)) (same_branch step.branch);
-    }
 own_branch : (b : Branch) → is_branch b b ≡ true
 own_branch Plain = refl
 own_branch Yes = refl
 own_branch No = refl
+
 first_is_step : (p : ProgramTable) (t k : ℕ) (step : Step) (rest : List Step) → 1 ≤ t → t ≤ length p.threads → 1 ≤ k → k ≤ points p t → steps_at p t k ≡ step ∷ rest → IsStepOf p step
 first_is_step p t k step rest low high from upto is =
     let leads = All-head (LeadsWithin t k (points p t)) step rest (All-same (LeadsWithin t k (points p t)) (step ∷ rest) (steps_at p t k) (sym is) (steps_lead_within p t k from)) in
+    record {
       thread = subst (λ (n : ℕ). (1 ≤ n) × (n ≤ length p.threads)) (sym leads.thread) (low, high);
       point = subst (λ (n : ℕ). (1 ≤ step.point) × (step.point ≤ points p n)) (sym leads.thread) (subst (λ (j : ℕ). (1 ≤ j) × (j ≤ points p t)) (sym leads.point) (from, upto));
       leads =
           ap (step_of step.branch) (ap₂ (steps_at p) leads.thread leads.point ∙ is)
           ∙ ap (λ (b : Bool). cond b (Some step) (step_of step.branch rest)) (own_branch step.branch);
+    }
+
 pub first_of : (p : ProgramTable) (t k : ℕ) (steps : List Step) (none : Step) → (1 ≤ t) × (t ≤ length p.threads) → (1 ≤ k) × (k ≤ points p t) → steps ≡ steps_at p t k
     → 1 ≤ length steps → IsStepOf p (get_or steps 0 none)
 first_of p t k [] none thread point is some = absurd (omega (arith, some))
