@@ -8,3 +8,13 @@ pub mod Built
 pub mod Conjunctions
 pub mod Found
 pub mod Trues
+pub mod Models
+pub mod Unique
+pub mod Truths
+pub mod Accepted
+pub mod Rejected
+pub mod Said
+pub mod Steps
+pub mod Loaded
+pub mod Numbers
+pub mod Ready

@@ -4,3 +4,6 @@ pub mod Obligation
 pub mod Path
 pub mod Form
 pub mod Reading
+pub mod Outcome
+pub mod Laws
+pub mod Bench
