@@ -1,89 +1,85 @@
--- The answers: a status and one line of text for each. Status 0 is that every obligation follows, 1 that one does not, 3 that
--- the file stands for no outline or for one that is not judged yet, 8 that the words name no file, and 10 that the file is
--- longer than its limit.
-use Rattle.std.specs.Prelude.{◌≡◌, ℕ, ◌<◌, ◌≤◌, ◌⊎◌, if◌then◌else◌, List, [], ◌∷◌, length, bytes_eq, codes, Option, None, Some, IsSomeAnd, String, string_bytes}
+-- The answers: a status and a text for each. Status 0 is that every obligation follows, or that a text was printed; 1 that an
+-- obligation does not follow; 3 that the file stands for no outline, or for one that is not judged yet; 8 that the words are no
+-- command; and 10 that a file is longer than its limit.
+use Rattle.std.specs.Prelude.{◌≡◌, ℕ, ◌<◌, ◌≤◌, ◌⊎◌, List, length, Option, None, Some, IsSomeAnd, String}
 use Rattle.std.specs.declared.alloc.Global.{Global}
 use Rattle.pg_outline.specs.Outline.{OutlineTable}
-use Rattle.pg_judge.specs.Path.{kind}
-use Rattle.pg_judge.specs.Form.{IsOfForm}
 use Rattle.pg_outline_text.specs.Text.{StandsFor}
 use Rattle.pg_outline_text.specs.Fault.{Fault, first_fault}
 use Rattle.pg_report.specs.Refusal.{refusal}
-use Rattle.pg_app.specs.Line.{accepted, rejected, not_yet, usage, too_long}
-use Rattle.pg_app.specs.Outcome.{IsAcceptance, IsRejection}
+use Rattle.pg_report.specs.Obligations.{obligations_text}
+use Rattle.pg_app.specs.declared.judge.Outcome.{Outcome}
+use Rattle.pg_app.specs.Line.{usage, too_long}
+use Rattle.pg_app.specs.Outcome.{IsOutcome, status_of, line_of}
+use Rattle.pg_app.specs.Command.{Command, check, obligations, command_of, File, outline_file}
 
--- the most bytes that a file may have
-abbrev pub longest_file : ℕ
-longest_file = 1048576
+-- ---- the work of the commands
 
--- a name of a file is a text that is not empty
-abbrev pub non_empty : List ℕ → Option (List ℕ)
-non_empty [] = None
-non_empty (b ∷ bs) = Some (b ∷ bs)
+-- `check`: what the outline is judged as
+pub record IsJudged (o : OutlineTable) (status : ℕ) (text : List ℕ) : Type 0 where
+  pub outcome : Outcome
+  pub is : IsOutcome o outcome
+  pub status_is : status ≡ status_of outcome
+  pub text_is : text ≡ line_of outcome
 
--- the name in the words: they are the word `check` and one name
-abbrev pub name_of : List (String Global) → Option (List ℕ)
-name_of [] = None
-name_of (command ∷ []) = None
-name_of (command ∷ name ∷ []) =
-    if bytes_eq (string_bytes command) (codes "check") then non_empty (string_bytes name) else None
-name_of (command ∷ name ∷ word ∷ words) = None
-
--- the bytes stand for an outline each of whose obligations follows, and which is safe
-pub record IsAccepted (bytes : List ℕ) (status : ℕ) (text : List ℕ) : Type 0 where
-  pub outline : OutlineTable
-  pub number : ℕ
-  pub stands : StandsFor bytes outline
-  pub accepts : IsAcceptance outline number
+-- `obligations`: the text of all of them
+pub record IsListed (o : OutlineTable) (status : ℕ) (text : List ℕ) : Type 0 where
   pub status_is : status ≡ 0
-  pub text_is : text ≡ accepted number
+  pub text_is : text ≡ obligations_text o
 
--- the bytes stand for an outline with an obligation that does not follow, and this is the first
-pub record IsRejected (bytes : List ℕ) (status : ℕ) (text : List ℕ) : Type 0 where
-  pub outline : OutlineTable
-  pub number : ℕ
-  pub stands : StandsFor bytes outline
-  pub rejects : IsRejection outline number
-  pub status_is : status ≡ 1
-  pub text_is : text ≡ rejected number (kind number)
+-- ---- files
 
--- the bytes stand for an outline that has not the first form
-pub record IsNotYet (bytes : List ℕ) (status : ℕ) (text : List ℕ) : Type 0 where
-  pub outline : OutlineTable
-  pub stands : StandsFor bytes outline
-  pub other : ¬ IsOfForm outline
-  pub status_is : status ≡ 3
-  pub text_is : text ≡ not_yet
+-- what is found of a file: its bytes, or that it is longer than its limit
+pub data Found : Type 0 where
+  whole : List ℕ → Found
+  longer : Found
 
 -- the bytes stand for no outline, and this is their first fault
-pub record IsRefused (bytes : List ℕ) (status : ℕ) (text : List ℕ) : Type 0 where
+pub record IsRefusal (bytes : List ℕ) (status : ℕ) (text : List ℕ) : Type 0 where
   pub fault : Fault
   pub first : first_fault bytes ≡ Some fault
   pub status_is : status ≡ 3
   pub text_is : text ≡ refusal fault
 
--- the answer to a file of these bytes
-abbrev pub Answers : List ℕ → ℕ → List ℕ → Type 0
-Answers bytes status text =
-    IsAccepted bytes status text ⊎ (IsRejected bytes status text ⊎ (IsNotYet bytes status text ⊎ IsRefused bytes status text))
+-- the bytes stand for an outline, on which the work is done
+pub record IsDone (Work : OutlineTable → ℕ → List ℕ → Type 0) (bytes : List ℕ) (status : ℕ) (text : List ℕ) : Type 0 where
+  pub outline : OutlineTable
+  pub stands : StandsFor bytes outline
+  pub work : Work outline status text
 
--- the file of this name, with these bytes, is longer than its limit
-pub record IsOverlong (name bytes : List ℕ) (status : ℕ) (text : List ℕ) : Type 0 where
-  pub longer : longest_file < length bytes
+-- the file is longer than its limit
+pub record IsOverlong (Finds : File → Found → Type 0) (file : File) (status : ℕ) (text : List ℕ) : Type 0 where
+  pub finds : Finds file longer
   pub status_is : status ≡ 10
-  pub text_is : text ≡ too_long name
+  pub text_is : text ≡ too_long file.name
 
--- the file of these bytes is within its limit, and is answered
-pub record IsAnswered (bytes : List ℕ) (status : ℕ) (text : List ℕ) : Type 0 where
-  pub within : length bytes ≤ longest_file
-  pub answers : Answers bytes status text
+-- the file has these bytes, which are refused or on which the work is done
+pub record IsRead (Finds : File → Found → Type 0) (file : File) (Work : OutlineTable → ℕ → List ℕ → Type 0) (status : ℕ) (text : List ℕ) : Type 0 where
+  pub bytes : List ℕ
+  pub finds : Finds file (whole bytes)
+  pub answers : IsRefusal bytes status text ⊎ IsDone Work bytes status text
 
--- the answer to `check` of this name, if any, where the bytes of names are told
-abbrev pub DefinedFor : Option (List ℕ) → (List ℕ → Option (List ℕ)) → ℕ → List ℕ → Type 0
-DefinedFor None told status text = (status ≡ 8) × (text ≡ usage)
-DefinedFor (Some name) told status text =
-    IsSomeAnd (told name) (λ bytes. IsOverlong name bytes status text ⊎ IsAnswered bytes status text)
+-- the answer of some work on the outline in a file, where `Finds` says what is found of files
+abbrev pub OnOutline : (File → Found → Type 0) → File → (OutlineTable → ℕ → List ℕ → Type 0) → ℕ → List ℕ → Type 0
+OnOutline Finds file Work status text = IsOverlong Finds file status text ⊎ IsRead Finds file Work status text
+
+-- ---- commands
+
+-- the answer to a command
+abbrev pub Answers : (File → Found → Type 0) → Command → ℕ → List ℕ → Type 0
+Answers Finds (check name) status text = OnOutline Finds (outline_file name) IsJudged status text
+Answers Finds (obligations name) status text = OnOutline Finds (outline_file name) IsListed status text
+
+-- and to words that are a command or none
+abbrev pub AnswersTo : (File → Found → Type 0) → Option Command → ℕ → List ℕ → Type 0
+AnswersTo Finds None status text = (status ≡ 8) × (text ≡ usage)
+AnswersTo Finds (Some command) status text = Answers Finds command status text
+
+-- what is found of a file where the bytes of names are told
+abbrev pub Tells : (List ℕ → Option (List ℕ)) → File → Found → Type 0
+Tells told file (whole bytes) = (told file.name ≡ Some bytes) × (length bytes ≤ file.limit)
+Tells told file longer = IsSomeAnd (told file.name) (λ bytes. file.limit < length bytes)
 
 -- the answer to the words, where the bytes of names are told
 abbrev pub Defined : List (String Global) → (List ℕ → Option (List ℕ)) → ℕ → List ℕ → Type 0
-Defined words told status text = DefinedFor (name_of words) told status text
+Defined words told status text = AnswersTo (Tells told) (command_of words) status text

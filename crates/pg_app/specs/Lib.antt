@@ -2,6 +2,8 @@ pub mod Line
 pub mod Path
 pub mod Outcome
 pub mod Safety
+pub mod Command
 pub mod Answer
 pub mod Put
 pub mod Run
+pub mod Stops

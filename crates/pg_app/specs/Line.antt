@@ -25,7 +25,7 @@ not_yet = codes "refused not yet\n"
 
 -- the words are not a command
 abbrev pub usage : List ℕ
-usage = codes "usage: check NAME\n"
+usage = codes "usage: check NAME | obligations NAME\n"
 
 -- the file of this name is longer than its limit
 abbrev pub too_long : List ℕ → List ℕ

@@ -1,30 +1,34 @@
--- How a line with its status comes to be put on a sink. `Due status text` says which statuses and
+-- How a text with its status comes to be put on a sink. `Due status text` says which statuses and
 -- texts are due; `old` and `new` are what the sink tells it has written, and `before` and `now` are
 -- its counts of faults.
 use Rattle.std.specs.Prelude.{◌≡◌, ℕ, ◌⊎◌, List, Option}
 use Rattle.pg_io.specs.Counts.{Rose}
 use Rattle.pg_io.specs.Written.{appended, AppendsPart}
 
--- the line was written whole, and its status is the answer
+-- the text was written whole, and its status is the answer
 pub record IsWhole (Due : ℕ → List ℕ → Type 0) (status : ℕ) (old new : Option (List ℕ)) : Type 0 where
   pub text : List ℕ
   pub due : Due status text
   pub written : new ≡ appended old text
 
--- a fault cut the line short
+-- a prefix of a text that is due was written
+pub record IsPart (Due : ℕ → List ℕ → Type 0) (old new : Option (List ℕ)) : Type 0 where
+  pub status : ℕ
+  pub text : List ℕ
+  pub due : Due status text
+  pub written : AppendsPart old new text
+
+-- a fault cut the text short
 pub record IsCut (Due : ℕ → List ℕ → Type 0) (status : ℕ) (old new : Option (List ℕ)) (before now : ℕ) : Type 0 where
   pub status_is : status ≡ 7
   pub rose : Rose before now
-  pub due_status : ℕ
-  pub text : List ℕ
-  pub due : Due due_status text
-  pub written : AppendsPart old new text
+  pub part : IsPart Due old new
 
--- memory ran out before anything was written
-pub record IsSpent (status : ℕ) (old new : Option (List ℕ)) : Type 0 where
+-- memory ran out before anything was written, or between two lines
+pub record IsSpent (Due : ℕ → List ℕ → Type 0) (status : ℕ) (old new : Option (List ℕ)) : Type 0 where
   pub status_is : status ≡ 9
-  pub kept : new ≡ old
+  pub part : (new ≡ old) ⊎ IsPart Due old new
 
 abbrev pub Puts : (ℕ → List ℕ → Type 0) → ℕ → Option (List ℕ) → Option (List ℕ) → ℕ → ℕ → Type 0
 Puts Due status old new before now =
-    IsWhole Due status old new ⊎ (IsCut Due status old new before now ⊎ IsSpent status old new)
+    IsWhole Due status old new ⊎ (IsCut Due status old new before now ⊎ IsSpent Due status old new)

@@ -1,14 +1,15 @@
 -- How a call of the program ends. `told` gives the bytes of a name, where the room tells them;
 -- `old` and `new` are what the sink tells it has written.
-use Rattle.std.specs.Prelude.{◌≡◌, ◌≢◌, ℕ, ◌+◌, ◌≤◌, ◌⊎◌, List, [], ◌∷◌, length, Option, None, Some, IsSome, IsNone, IsSomeAnd, IfSome, IfNone, Contains, String}
+use Rattle.std.specs.Prelude.{◌≡◌, ◌≢◌, ℕ, ◌+◌, ◌≤◌, ◌⊎◌, List, [], ◌∷◌, length, Option, None, Some, IsSome, IsNone, IfSome, IfNone, All, Contains, String}
 use Rattle.std.specs.declared.alloc.Global.{Global}
 use Rattle.pg_io.specs.Counts.{Rose, RoseBy}
 use Rattle.pg_io.specs.Told.{IsTold, IsTooLong}
 use Rattle.pg_io.specs.Written.{appended, AppendsPart}
-use Rattle.pg_app.specs.Line.{usage, too_long}
-use Rattle.pg_app.specs.Answer.{longest_file, name_of, Answers, Defined}
+use Rattle.pg_app.specs.Line.{usage}
+use Rattle.pg_app.specs.Command.{Command, command_of, File, files_for, files_in}
+use Rattle.pg_app.specs.Answer.{Found, whole, longer, AnswersTo, Defined}
 use Rattle.pg_app.specs.Put.{Puts}
-use Rattle.pg_app.specs.Safety.{IsSafeText}
+use Rattle.pg_app.specs.Safety.{IsOutlineText, Claims}
 
 -- the statuses of the program
 abbrev pub statuses : List ℕ
@@ -20,9 +21,27 @@ pub record IsAnswer (status : ℕ) : Type 0 where
   pub put : status ≢ 7
   pub roomy : status ≢ 9
 
--- an answer is defined: there is no name, or the bytes of the name are told
-abbrev pub IsKnown : Option (List ℕ) → (List ℕ → Option (List ℕ)) → Type 0
-IsKnown name told = IfSome name (λ n. IsSome (told n))
+-- ---- the files of the words
+
+-- the bytes of each file are told
+abbrev pub AreTold : List File → (List ℕ → Option (List ℕ)) → Type 0
+AreTold files told = All (λ file. IsSome (told file.name)) files
+
+-- no file's count of faults rose
+abbrev pub AreQuiet : List File → (List ℕ → ℕ) → (List ℕ → ℕ) → Type 0
+AreQuiet files faults faults_now = All (λ file. ¬ Rose (faults file.name) (faults_now file.name)) files
+
+-- bytes after which the next file is fetched: they are within the file's limit, and stand for an outline
+pub record IsPassed (file : File) (bytes : List ℕ) : Type 0 where
+  pub within : length bytes ≤ file.limit
+  pub outline : IsOutlineText bytes
+
+-- one of the files is so, and it was fetched: each file before it was passed
+abbrev pub Reached : (List ℕ → Option (List ℕ)) → List File → (File → Type 0) → Type 0
+Reached told [] IsSo = ⊥
+Reached told (file ∷ files) IsSo = IsSo file ⊎ (IfSome (told file.name) (IsPassed file) × Reached told files IsSo)
+
+-- ---- what is written
 
 -- this status is defined, and its whole text was written
 pub record Writes (words : List (String Global)) (told : List ℕ → Option (List ℕ)) (status : ℕ) (old new : Option (List ℕ)) : Type 0 where
@@ -42,54 +61,39 @@ pub record WritesPart (words : List (String Global)) (told : List ℕ → Option
   pub defined : Defined words told status text
   pub written : AppendsPart old new text
 
--- the file of this name was too long: its bytes are, where they are told, and more bytes were
--- taken than a file may have
-pub record IsLong (name : List ℕ) (told : Option (List ℕ)) (taken taken_now status : ℕ) (text : List ℕ) : Type 0 where
-  pub longer : IsTooLong told longest_file
-  pub rose : RoseBy (longest_file + 1) taken taken_now
-  pub status_is : status ≡ 10
-  pub text_is : text ≡ too_long name
+-- ---- how a call ends
 
--- a file was fetched, whose bytes are those that are told, if any, and this is its answer
-pub record IsJudged (told : Option (List ℕ)) (status : ℕ) (text : List ℕ) : Type 0 where
-  pub bytes : List ℕ
-  pub told_are : IsTold told bytes
-  pub within : length bytes ≤ longest_file
-  pub answers : Answers bytes status text
+-- What a fetch finds of a file: its bytes, which are those that are told, if any; or that it is too long, and then its bytes are,
+-- where they are told, and more bytes were taken than it may have.
+abbrev pub Fetches : (List ℕ → Option (List ℕ)) → ℕ → ℕ → File → Found → Type 0
+Fetches told taken taken_now file (whole bytes) = IsTold (told file.name) bytes × (length bytes ≤ file.limit)
+Fetches told taken taken_now file longer = IsTooLong (told file.name) file.limit × RoseBy (file.limit + 1) taken taken_now
 
--- the status and the text that are due where the words have this name, or none
-abbrev pub DueFor : Option (List ℕ) → (List ℕ → Option (List ℕ)) → ℕ → ℕ → ℕ → List ℕ → Type 0
-DueFor None told taken taken_now status text = (status ≡ 8) × (text ≡ usage)
-DueFor (Some name) told taken taken_now status text =
-    IsLong name (told name) taken taken_now status text ⊎ IsJudged (told name) status text
-
--- the file was not fetched, as its count of faults rose, and nothing was written
-pub record IsUnfetched (name : Option (List ℕ)) (faults faults_now : List ℕ → ℕ) (status : ℕ) (old new : Option (List ℕ)) : Type 0 where
+-- a file was not fetched, as its count of faults rose, and nothing was written
+pub record IsUnfetched (told : List ℕ → Option (List ℕ)) (files : List File) (faults faults_now : List ℕ → ℕ) (status : ℕ) (old new : Option (List ℕ)) : Type 0 where
   pub status_is : status ≡ 6
-  pub rose : IsSomeAnd name (λ n. Rose (faults n) (faults_now n))
+  pub rose : Reached told files (λ file. Rose (faults file.name) (faults_now file.name))
   pub kept : new ≡ old
 
--- the call put what is due, or could not fetch the file
-pub record Ends (name : Option (List ℕ)) (told : List ℕ → Option (List ℕ)) (faults faults_now : List ℕ → ℕ) (taken taken_now status : ℕ) (old new : Option (List ℕ)) (before now : ℕ) : Type 0 where
+-- the call put what is due, or could not fetch a file
+pub record Ends (command : Option Command) (told : List ℕ → Option (List ℕ)) (faults faults_now : List ℕ → ℕ) (taken taken_now status : ℕ) (old new : Option (List ℕ)) (before now : ℕ) : Type 0 where
   pub how :
-      Puts (DueFor name told taken taken_now) status old new before now
-      ⊎ IsUnfetched name faults faults_now status old new
+      Puts (AnswersTo (Fetches told taken taken_now) command) status old new before now
+      ⊎ IsUnfetched told (files_for command) faults faults_now status old new
 
 -- What a run of the program on these words does, in the clauses of `run`.
 pub record IsRun (words : List (String Global)) (told : List ℕ → Option (List ℕ)) (faults faults_now : List ℕ → ℕ) (taken taken_now status : ℕ) (old new : Option (List ℕ)) (before now : ℕ) : Type 0 where
   pub range : Contains statuses status
-  pub read_fault : status ≡ 6 → IsSomeAnd (name_of words) (λ name. Rose (faults name) (faults_now name))
+  pub read_fault : status ≡ 6 → Reached told (files_in words) (λ file. Rose (faults file.name) (faults_now file.name))
   pub nothing_read : status ≡ 6 → new ≡ old
   pub write_fault : status ≡ 7 → Rose before now
-  pub too_long : status ≡ 10 → IsSome (name_of words) × RoseBy (longest_file + 1) taken taken_now
-  pub usage : status ≡ 8 → IsNone (name_of words) × (new ≡ appended old usage)
-  pub nameless : IfNone (name_of words) (status ≡ 8 ⊎ (status ≡ 7 ⊎ status ≡ 9))
-  pub defined : IsKnown (name_of words) told → IsAnswer status → Writes words told status old new
+  pub too_long : status ≡ 10 → Reached told (files_in words) (λ file. RoseBy (file.limit + 1) taken taken_now)
+  pub usage : status ≡ 8 → IsNone (command_of words) × (new ≡ appended old usage)
+  pub shapeless : IfNone (command_of words) (status ≡ 8 ⊎ (status ≡ 7 ⊎ status ≡ 9))
+  pub defined : AreTold (files_in words) told → IsAnswer status → Writes words told status old new
   pub only : HasOneAnswer words told
-  pub part : IsKnown (name_of words) told → status ≡ 7 ⊎ status ≡ 9 →
+  pub part : AreTold (files_in words) told → status ≡ 7 ⊎ status ≡ 9 →
       (new ≡ old) ⊎ WritesPart words told old new
-  pub complete : IsKnown (name_of words) told →
-      IfSome (name_of words) (λ name. ¬ Rose (faults name) (faults_now name)) →
-      ¬ Rose before now →
+  pub complete : AreTold (files_in words) told → AreQuiet (files_in words) faults faults_now → ¬ Rose before now →
       Writes words told status old new ⊎ (status ≡ 9)
-  pub safe : status ≡ 0 → IfSome (name_of words) (λ name. IfSome (told name) (λ bytes. IsSafeText bytes))
+  pub safe : status ≡ 0 → IfSome (command_of words) (λ command. Claims command told)

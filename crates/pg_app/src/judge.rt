@@ -4,8 +4,11 @@
 ghost use Rattle.std.specs.Prelude.{◌≡◌, IfOk};
 ghost use Rattle.pg_judge.specs.Form.{IsOfForm, outline};
 ghost use Rattle.pg_judge.specs.Path.{path, IsPath};
-ghost use Rattle.pg_app.specs.Outcome.{IsOutcome, IsPrintable};
+ghost use Rattle.pg_app.specs.Answer.{IsJudged};
+ghost use Rattle.pg_app.specs.Outcome.{IsOutcome, IsPrintable, status_of};
 
+use crate::line::outcome_line;
+use crate::status::{ACCEPTED, REFUSED, REJECTED};
 use pg_judge::{PathJudgement, PathOutline, check_path, path_of};
 use pg_outline::Outline;
 use std::alloc::{AllocError, Global};
@@ -21,8 +24,28 @@ pub enum Outcome {
     NotYet,
 }
 
+/// The status and the line of what an outline is judged as.
+pub fn judged_line(alloc: Global, outline: &Outline) -> Result<(u8, Vec<u8>), AllocError>
+    ensures { IfOk result (λ answer. IsJudged outline.now answer.0 answer.1.items) }
+{
+    let outcome = judged(alloc, outline)?;
+    let line = outcome_line(alloc, outcome)?;
+    Ok((outcome_status(outcome), line))
+}
+
+// The status of an outcome.
+fn outcome_status(outcome: Outcome) -> u8
+    ensures { result ≡ status_of outcome }
+{
+    match outcome {
+        Outcome::Accepted { .. } => ACCEPTED,
+        Outcome::Rejected { .. } => REJECTED,
+        Outcome::NotYet => REFUSED,
+    }
+}
+
 /// Judges an outline.
-pub fn judged(alloc: Global, outline: &Outline) -> Result<Outcome, AllocError>
+fn judged(alloc: Global, outline: &Outline) -> Result<Outcome, AllocError>
     ensures outcome { IfOk result (IsOutcome outline.now) }
     ensures printable { IfOk result IsPrintable }
 {

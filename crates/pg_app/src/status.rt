@@ -3,6 +3,9 @@
 /// Every obligation follows.
 pub const ACCEPTED: u8 = 0;
 
+/// The text that was asked for was printed.
+pub const PRINTED: u8 = 0;
+
 /// An obligation does not follow.
 pub const REJECTED: u8 = 1;
 

@@ -5,6 +5,8 @@ use std::alloc::{AllocError, Global};
 use std::fmt::Debug;
 use std::test::Fail;
 
+const USAGE: &[u8] = b"usage: check NAME | obligations NAME\n";
+
 // Passes where what was found is what is wanted in this case.
 fn agree<T: PartialEq + Debug + Copy>(found: T, wanted: T, case: &[u8]) -> Result<(), Fail> {
     if found == wanted {
@@ -22,8 +24,9 @@ struct File {
 }
 
 // In `r21` a store stands between two assertions, and in `r21b` the second one still has the old
-// value. `full` is as long as a file may be, and `big` is a byte longer.
-static FILES: [File; 7] = [
+// value. In `r1` a flush stands between two stores, and `two` has two threads, one of which has a test. `full` is as long as a
+// file may be, and `big` is a byte longer.
+static FILES: [File; 9] = [
     File {
         name: "r21",
         text: b"pierogi 1; values 2; location x = 0; pre L(x,0); thread 1 { [L(x,0)] x := 1; [L(x,1)] }",
@@ -37,6 +40,18 @@ static FILES: [File; 7] = [
     File {
         name: "r3",
         text: b"pierogi 1; values 2; thread 1 { [ true ] }",
+        length: 0,
+    },
+    File {
+        name: "r1",
+        text: b"pierogi 1; values 2; location x = 0; location y = 0;\npre !P(y,1); crash y = 1 -> x = 1;\n\
+    thread 1 { [!P(y,1)] x := 1; [!P(y,1) & L(x,1) & F(1,x)] flush x;\n  [!P(x,0)] y := 1; [!P(x,0)] }\n",
+        length: 0,
+    },
+    File {
+        name: "two",
+        text: b"pierogi 1; values 3; location x = 2; register r of 1; auxiliary e;\npre r = 0; crash !(x = 1) | e = 0;\n\
+    thread 1 { [(r = 0 | e = 1) & true] if r = 0 { [N(1,x)] r := x; } [C(1,x,0,x,2)] }\nthread 2 { [true] }\n",
         length: 0,
     },
     File {
@@ -73,10 +88,13 @@ fn filled(alloc: Global, text: &[u8], length: usize, byte: u8) -> Result<Vec<u8>
     Ok(bytes)
 }
 
-fn files(alloc: Global) -> Result<Vec<(String, Vec<u8>)>, AllocError> {
+// The files that these words name.
+fn files(alloc: Global, words: &[&str]) -> Result<Vec<(String, Vec<u8>)>, AllocError> {
     let mut files = Vec::new(alloc);
     for file in &FILES {
-        files.push(listed(alloc, file)?)?;
+        if words.contains(&file.name) {
+            files.push(listed(alloc, file)?)?;
+        }
     }
     Ok(files)
 }
@@ -101,6 +119,119 @@ fn status_of<R: Room, K: Sink>(
     Ok(run(alloc, words.as_slice(), room, out))
 }
 
+// The obligations of `r3`, of `two` and of `r1`.
+const NOTHING_HELD: &[u8] = b"\
+    1 fresh\n\
+    goal true\n\
+    2 entry 1\n\
+    given true\n\
+    goal true\n\
+    3 entry crash\n\
+    given true\n\
+    goal crash true\n\
+    ";
+
+const TWO_THREADS: &[u8] = b"\
+    1 fresh\n\
+    given r = 0\n\
+    given e = 0\n\
+    given L(x,2)\n\
+    given N(1,x)\n\
+    given N(2,x)\n\
+    given !P(x,0)\n\
+    given !P(x,1)\n\
+    goal r = 0\n\
+    2 entry 1\n\
+    given r = 0\n\
+    goal (r = 0 | e = 1) & true\n\
+    3 entry 2\n\
+    given r = 0\n\
+    goal true\n\
+    4 entry crash\n\
+    given r = 0\n\
+    goal crash !x = 1 | e = 0\n\
+    5 local 1.1t\n\
+    given (r = 0 | e = 1) & true\n\
+    given crash !x = 1 | e = 0\n\
+    goal N(1,x)\n\
+    6 crash 1.1t\n\
+    given (r = 0 | e = 1) & true\n\
+    given crash !x = 1 | e = 0\n\
+    goal crash !x = 1 | e = 0\n\
+    7 interfere 1.1t on 2.1\n\
+    given (r = 0 | e = 1) & true\n\
+    given true\n\
+    given crash !x = 1 | e = 0\n\
+    goal true\n\
+    8 local 1.1f\n\
+    given (r = 0 | e = 1) & true\n\
+    given crash !x = 1 | e = 0\n\
+    goal C(1,x,0,x,2)\n\
+    9 crash 1.1f\n\
+    given (r = 0 | e = 1) & true\n\
+    given crash !x = 1 | e = 0\n\
+    goal crash !x = 1 | e = 0\n\
+    10 interfere 1.1f on 2.1\n\
+    given (r = 0 | e = 1) & true\n\
+    given true\n\
+    given crash !x = 1 | e = 0\n\
+    goal true\n\
+    11 local 1.2\n\
+    given N(1,x)\n\
+    given crash !x = 1 | e = 0\n\
+    goal C(1,x,0,x,2)\n\
+    12 crash 1.2\n\
+    given N(1,x)\n\
+    given crash !x = 1 | e = 0\n\
+    goal crash !x = 1 | e = 0\n\
+    13 interfere 1.2 on 2.1\n\
+    given N(1,x)\n\
+    given true\n\
+    given crash !x = 1 | e = 0\n\
+    goal true\n\
+    ";
+
+const ONE_FLUSH: &[u8] = b"\
+    1 fresh\n\
+    given L(x,0)\n\
+    given L(y,0)\n\
+    given N(1,x)\n\
+    given N(1,y)\n\
+    given !P(x,1)\n\
+    given !P(y,1)\n\
+    goal !P(y,1)\n\
+    2 entry 1\n\
+    given !P(y,1)\n\
+    goal !P(y,1)\n\
+    3 entry crash\n\
+    given !P(y,1)\n\
+    goal crash y = 1 -> x = 1\n\
+    4 local 1.1\n\
+    given !P(y,1)\n\
+    given crash y = 1 -> x = 1\n\
+    goal !P(y,1) & L(x,1) & F(1,x)\n\
+    5 crash 1.1\n\
+    given !P(y,1)\n\
+    given crash y = 1 -> x = 1\n\
+    goal crash y = 1 -> x = 1\n\
+    6 local 1.2\n\
+    given !P(y,1) & L(x,1) & F(1,x)\n\
+    given crash y = 1 -> x = 1\n\
+    goal !P(x,0)\n\
+    7 crash 1.2\n\
+    given !P(y,1) & L(x,1) & F(1,x)\n\
+    given crash y = 1 -> x = 1\n\
+    goal crash y = 1 -> x = 1\n\
+    8 local 1.3\n\
+    given !P(x,0)\n\
+    given crash y = 1 -> x = 1\n\
+    goal !P(x,0)\n\
+    9 crash 1.3\n\
+    given !P(x,0)\n\
+    given crash y = 1 -> x = 1\n\
+    goal crash y = 1 -> x = 1\n\
+    ";
+
 // Words, the numbers of the fetch and of the put that fail, from 1, and then the status and the text.
 struct Call {
     words: &'static [&'static str],
@@ -110,41 +241,41 @@ struct Call {
     text: &'static [u8],
 }
 
-static CALLS: [Call; 19] = [
+static CALLS: [Call; 31] = [
     Call {
         words: &[],
         fetch: 0,
         put: 0,
         status: 8,
-        text: b"usage: check NAME\n",
+        text: USAGE,
     },
     Call {
         words: &["check"],
         fetch: 0,
         put: 0,
         status: 8,
-        text: b"usage: check NAME\n",
+        text: USAGE,
     },
     Call {
         words: &["check", "full", "big"],
         fetch: 0,
         put: 0,
         status: 8,
-        text: b"usage: check NAME\n",
+        text: USAGE,
     },
     Call {
         words: &["Check", "full"],
         fetch: 0,
         put: 0,
         status: 8,
-        text: b"usage: check NAME\n",
+        text: USAGE,
     },
     Call {
         words: &["check", ""],
         fetch: 0,
         put: 0,
         status: 8,
-        text: b"usage: check NAME\n",
+        text: USAGE,
     },
     Call {
         words: &[],
@@ -231,6 +362,90 @@ static CALLS: [Call; 19] = [
         text: b"",
     },
     Call {
+        words: &["obligations"],
+        fetch: 0,
+        put: 0,
+        status: 8,
+        text: USAGE,
+    },
+    Call {
+        words: &["obligations", ""],
+        fetch: 0,
+        put: 0,
+        status: 8,
+        text: USAGE,
+    },
+    Call {
+        words: &["obligations", "r3", "r3"],
+        fetch: 0,
+        put: 0,
+        status: 8,
+        text: USAGE,
+    },
+    Call {
+        words: &["Obligations", "r3"],
+        fetch: 0,
+        put: 0,
+        status: 8,
+        text: USAGE,
+    },
+    Call {
+        words: &["r3", "obligations"],
+        fetch: 0,
+        put: 0,
+        status: 8,
+        text: USAGE,
+    },
+    Call {
+        words: &["obligations", "r3"],
+        fetch: 0,
+        put: 0,
+        status: 0,
+        text: NOTHING_HELD,
+    },
+    Call {
+        words: &["obligations", "full"],
+        fetch: 0,
+        put: 0,
+        status: 0,
+        text: NOTHING_HELD,
+    },
+    Call {
+        words: &["obligations", "empty"],
+        fetch: 0,
+        put: 0,
+        status: 3,
+        text: b"refused 0 unexpected\n",
+    },
+    Call {
+        words: &["obligations", "gone"],
+        fetch: 0,
+        put: 1,
+        status: 6,
+        text: b"",
+    },
+    Call {
+        words: &["obligations", "r3"],
+        fetch: 1,
+        put: 0,
+        status: 6,
+        text: b"",
+    },
+    Call {
+        words: &["obligations", "big"],
+        fetch: 0,
+        put: 0,
+        status: 10,
+        text: b"too long big\n",
+    },
+    Call {
+        words: &["obligations", "two"],
+        fetch: 0,
+        put: 0,
+        status: 0,
+        text: TWO_THREADS,
+    },
+    Call {
         words: &["check", "big"],
         fetch: 0,
         put: 0,
@@ -248,7 +463,7 @@ static CALLS: [Call; 19] = [
 
 // Passes where a call over the files ends as it should.
 fn is_answered(alloc: Global, call: &'static Call) -> Result<(), Fail> {
-    let mut room = MemoryRoom::make(files(alloc)?, vec![in alloc; call.fetch]?);
+    let mut room = MemoryRoom::make(files(alloc, call.words)?, vec![in alloc; call.fetch]?);
     let mut out = MemorySink::make(alloc, vec![in alloc; call.put]?);
     let status = status_of(alloc, call.words, &mut room, &mut out)?;
     agree((status, out.bytes()), (call.status, call.text), call.text)
@@ -260,6 +475,40 @@ fn memory_calls(rt: HostRuntime) -> Result<(), Fail> {
         is_answered(rt.alloc(), call)?;
     }
     Ok(())
+}
+
+// The first lines of a text.
+fn first_lines(text: &[u8], lines: u32) -> &[u8] {
+    let mut end: usize = 0;
+    let mut left = lines;
+    for byte in text {
+        if left == 0 {
+            break;
+        }
+        end = end.saturating_add(1);
+        if *byte == b'\n' {
+            left = left.saturating_sub(1);
+        }
+    }
+    text.get(..end).unwrap_or(text)
+}
+
+// Passes where the obligations of `r1` are put up to a line that fails.
+fn is_cut(alloc: Global, failing: u32, status: u8) -> Result<(), Fail> {
+    let words = &["obligations", "r1"];
+    let mut room = MemoryRoom::make(files(alloc, words)?, Vec::new(alloc));
+    let mut out = MemorySink::make(alloc, vec![in alloc; failing]?);
+    let found = status_of(alloc, words, &mut room, &mut out)?;
+    let wanted = first_lines(ONE_FLUSH, failing.saturating_sub(1));
+    agree((found, out.bytes()), (status, wanted), wanted)
+}
+
+#[test]
+fn failing_puts_cut_lines(rt: HostRuntime) -> Result<(), Fail> {
+    for failing in 1..39 {
+        is_cut(rt.alloc(), failing, 7)?;
+    }
+    is_cut(rt.alloc(), 39, 0)
 }
 
 // A room with one file of these bytes.

@@ -1,7 +1,7 @@
 -- The line of the fault is the answer to each file with this first fault.
 use Rattle.pg_app.proofs.Faults.{tells_some, fault_put, fault_cut}
 use Rattle.pg_outline_text.specs.Fault.{plain_fault}
-use Rattle.pg_app.proofs.run.refuse.Goals as goal
+use Rattle.pg_app.proofs.put.refuse.Goals as goal
 
 pub returns-in-Ok : goal.returns-in-Ok
 returns-in-Ok g c = λ bytes tells memory.

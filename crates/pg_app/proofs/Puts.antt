@@ -1,0 +1,32 @@
+-- What is put for one reason is put for another.
+use Rattle.std.proofs.Common.{◌≡◌, ℕ, ◌⊎◌, inl, inr, List, length, Option, sym, subst}
+use Rattle.std.proofs.Math.Seq.{take-length}
+use Rattle.pg_io.specs.Counts.{Rose}
+use Rattle.pg_io.specs.Written.{appended, AppendsPart}
+use Rattle.pg_app.specs.Put.{IsPart, Puts}
+
+-- the whole of a text is a part of it
+pub whole_is_part : (old new : Option (List ℕ)) (text : List ℕ) → new ≡ appended old text → AppendsPart old new text
+whole_is_part old new text e = (length text, rw take-length e)
+
+module _ (P Q : ℕ → List ℕ → Type 0) (f : (s : ℕ) (text : List ℕ) → P s text → Q s text) where
+  part_map : (old new : Option (List ℕ)) → IsPart P old new → IsPart Q old new
+  part_map old new part = record { status = part.status; text = part.text; due = f part.status part.text part.due; written = part.written }
+
+  rest_map : (old new : Option (List ℕ)) → (new ≡ old) ⊎ IsPart P old new → (new ≡ old) ⊎ IsPart Q old new
+  rest_map old new (inl kept) = inl kept
+  rest_map old new (inr part) = inr (part_map old new part)
+
+  -- what is due for one reason is due for another
+  pub puts_map : (status : ℕ) (old new : Option (List ℕ)) (before now : ℕ) → Puts P status old new before now → Puts Q status old new before now
+  puts_map status old new before now (inl whole) = inl (record { text = whole.text; due = f status whole.text whole.due; written = whole.written })
+  puts_map status old new before now (inr (inl cut)) = inr (inl (record { status_is = cut.status_is; rose = cut.rose; part = part_map old new cut.part }))
+  puts_map status old new before now (inr (inr spent)) = inr (inr (record { status_is = spent.status_is; part = rest_map old new spent.part }))
+
+-- a line that is due, and was put, is a put of what is due
+pub line_put : {status : ℕ} {old new : Option (List ℕ)} {before now : ℕ} (P : ℕ → List ℕ → Type 0) (due : ℕ) (line : List ℕ) → P due line
+    → Puts (λ s text. (s ≡ due) × (text ≡ line)) status old new before now → Puts P status old new before now
+line_put {status} {old} {new} {before} {now} P due line is puts =
+    puts_map (λ s text. (s ≡ due) × (text ≡ line)) P
+    (λ s text same. subst (λ (t : List ℕ). P s t) (sym same.1) (subst (λ (n : ℕ). P n line) (sym same.0) is))
+    status old new before now puts

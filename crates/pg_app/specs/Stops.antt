@@ -1,0 +1,31 @@
+-- How the fetch of an outline ends: with the outline, or with the end of the call.
+use Rattle.std.specs.Prelude.{◌≡◌, ℕ, ◌⊎◌, List, Option}
+use Rattle.pg_io.specs.Counts.{Rose}
+use Rattle.pg_outline.specs.Outline.{OutlineTable}
+use Rattle.pg_outline_text.specs.Text.{StandsFor}
+use Rattle.pg_app.specs.Command.{File}
+use Rattle.pg_app.specs.Answer.{whole, OnOutline}
+use Rattle.pg_app.specs.Put.{Puts}
+use Rattle.pg_app.specs.Run.{Fetches}
+
+-- the outline is that of the bytes that were fetched
+pub record IsFetched (told : List ℕ → Option (List ℕ)) (taken taken_now : ℕ) (file : File) (o : OutlineTable) : Type 0 where
+  pub bytes : List ℕ
+  pub finds : Fetches told taken taken_now file (whole bytes)
+  pub stands : StandsFor bytes o
+
+-- no work is done
+abbrev pub Nothing : OutlineTable → ℕ → List ℕ → Type 0
+Nothing o status text = ⊥
+
+-- the file's count of faults rose, and nothing was written
+pub record IsFailed (faults faults_now status : ℕ) (old new : Option (List ℕ)) : Type 0 where
+  pub status_is : status ≡ 6
+  pub rose : Rose faults faults_now
+  pub kept : new ≡ old
+
+-- the refusal of the file was put, or the file could not be fetched
+pub record Stops (told : List ℕ → Option (List ℕ)) (file : File) (faults faults_now taken taken_now status : ℕ) (old new : Option (List ℕ)) (before now : ℕ) : Type 0 where
+  pub how :
+      Puts (OnOutline (Fetches told taken taken_now) file Nothing) status old new before now
+      ⊎ IsFailed faults faults_now status old new
