@@ -35,14 +35,15 @@ part_within : (old mid new : Option (List ℕ)) (done piece rest whole : List �
     → AppendsPart mid new piece → AppendsPart old new whole
 part_within old mid new done piece rest whole before parts part =
     let within = take-part part.0 piece rest in
-    let behind = take-behind within.0 done (piece ++ rest) in
-    (behind.0,
-    part.1
-    ∙ ap (λ (o : Option (List ℕ)). appended o (take part.0 piece)) before
-    ∙ appended-twice old done (take part.0 piece)
-    ∙ ap (λ (l : List ℕ). appended old (done ++ l)) (sym within.1)
-    ∙ ap (appended old) (sym behind.1)
-    ∙ ap (λ (l : List ℕ). appended old (take behind.0 l)) parts)
+    let behind = take-behind within.0 done (piece ++ rest) in (
+      behind.0,
+      part.1
+          ∙ ap (λ (o : Option (List ℕ)). appended o (take part.0 piece)) before
+          ∙ appended-twice old done (take part.0 piece)
+          ∙ ap (λ (l : List ℕ). appended old (done ++ l)) (sym within.1)
+          ∙ ap (appended old) (sym behind.1)
+          ∙ ap (λ (l : List ℕ). appended old (take behind.0 l)) parts,
+    )
 
 -- ---- one piece after another
 

@@ -49,7 +49,14 @@ fn append_lasts(p: &Program, text: &mut Vec<u8>) -> Result<(), AllocError>
 {
     let names = p.names();
     'locations: for x in 0..names.locations() {
-        append_true(ViewAtom::Last { x, v: first_value(p, x) }, names, text)?;
+        append_true(
+            ViewAtom::Last {
+                x,
+                v: first_value(p, x),
+            },
+            names,
+            text,
+        )?;
     }
     Ok(())
 }
