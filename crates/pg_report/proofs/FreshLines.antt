@@ -1,5 +1,5 @@
 -- The lines of the fresh state are those of its givens.
-use Rattle.std.proofs.Common.{◌≡◌, ℕ, zero, suc, ◌+◌, ◌-◌, ◌<◌, ◌≤◌, Bool, true, false, not, cond, List, [], ◌∷◌, ◌++◌, length, map, get_or, Option, Some, option_map, refl, sym, ap, ap₂, ◌∙◌, arith, append_assoc}
+use Rattle.std.proofs.Common.{◌≡◌, ℕ, ◌+◌, ◌-◌, ◌<◌, ◌≤◌, Bool, true, false, not, cond, List, [], ◌∷◌, ◌++◌, length, map, Some, option_map, refl, sym, ap, ap₂, ◌∙◌, arith, append_assoc}
 use Rattle.std.specs.List.{flat_map, range_with_len, filter, slice_get}
 use Rattle.std.specs.Prelude.{◌==◌, slice_index}
 use Rattle.std.proofs.lemmas.Grind.{flat_map-append}
@@ -16,7 +16,7 @@ use Rattle.pg_assertion.specs.Formula.{Plain, atom, neg}
 use Rattle.pg_tables.proofs.Lists.{range-split}
 use Rattle.pg_obligations.specs.Follow.{fresh_values}
 use Rattle.pg_report.specs.Obligations.{assertion, given_line}
-use Rattle.pg_report.specs.Fresh.{false_line, absent_line, absent_lines_of, absent_lines, own_newest_lines, newest_lines, scalar_lines, last_lines, fresh_lines}
+use Rattle.pg_report.specs.Fresh.{false_line, absent_lines_of, absent_lines, own_newest_lines, newest_lines, fresh_lines}
 
 -- ---- lists of lists
 

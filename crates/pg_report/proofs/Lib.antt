@@ -5,3 +5,5 @@ mod Within
 mod Names
 mod Meant
 mod Appended
+pub mod TrueAtoms
+pub mod Told

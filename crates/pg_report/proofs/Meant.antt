@@ -1,5 +1,5 @@
 -- What is printed of each obligation is what has to follow.
-use Rattle.std.proofs.Common.{map, refl, sym}
+use Rattle.std.proofs.Common.{refl, sym}
 use Rattle.std.proofs.lemmas.Simd.{map-map}
 use Rattle.pg_obligations.specs.declared.obligation.Obligation.TheVariants.{Fresh, Entry, EntryCrash, Local, Crash, Interfere}
 use Rattle.pg_assertion.specs.declared.layout.Side.TheVariants.{Before}

@@ -1,5 +1,5 @@
 -- What an outline's formulas speak of is declared.
-use Rattle.std.proofs.Common.{◌≡◌, ℕ, List, length}
+use Rattle.std.proofs.Common.{length}
 use Rattle.pg_program.specs.Program.{ProgramTable}
 use Rattle.pg_program.specs.NameTable.{NameTable}
 use Rattle.pg_assertion.specs.declared.atom.ViewAtom.{ViewAtom}
@@ -21,7 +21,7 @@ weaker P Q g (both f k) h = (weaker P Q g f h.0, weaker P Q g k h.1)
 weaker P Q g (either f k) h = (weaker P Q g f h.0, weaker P Q g k h.1)
 weaker P Q g (implies f k) h = (weaker P Q g f h.0, weaker P Q g k h.1)
 
-atom_declared : (p : ProgramTable) (a : ViewAtom) → IsAtom (sizes p.names (length p.threads)) a → NamesDeclared p.names a
+pub atom_declared : (p : ProgramTable) (a : ViewAtom) → IsAtom (sizes p.names (length p.threads)) a → NamesDeclared p.names a
 atom_declared p (view.Scalar r k) h = h.0
 atom_declared p (view.Last x v) h = h.0
 atom_declared p (view.Read t x v) h = h.1

@@ -1,8 +1,7 @@
 -- Texts that are put piece by piece: what was put, and what is still to come.
-use Rattle.std.proofs.Common.{◌≡◌, ℕ, zero, suc, ◌+◌, ◌≤◌, List, [], ◌∷◌, ◌++◌, length, take, drop, Option, None, Some, refl, sym, ap, ap₂, subst, ◌∙◌, arith, append_assoc}
+use Rattle.std.proofs.Common.{◌≡◌, ℕ, zero, suc, ◌≤◌, List, [], ◌∷◌, ◌++◌, take, drop, Option, None, Some, refl, sym, ap, ap₂, subst, ◌∙◌, arith, append_assoc}
 use Rattle.std.specs.Prelude.{Result, Ok, Err}
 use Rattle.std.proofs.lemmas.List.{append-nil, take-append-drop}
-use Rattle.pg_io.specs.Counts.{Rose}
 use Rattle.pg_io.specs.Written.{appended, AppendsPart}
 use Rattle.pg_report.specs.declared.fault.ReportFault.{ReportFault}
 use Rattle.pg_report.specs.declared.fault.ReportFault.TheVariants.{Write, NoMemory}

@@ -4,3 +4,4 @@ pub mod Obligations
 pub mod Placed
 pub mod Meaning
 pub mod Fresh
+pub mod Judged

@@ -2,19 +2,22 @@
 //!
 //! What the crate promises the layer above: `report_file_fault` puts the line of a file's fault (`specs/Refusal.antt`), and
 //! `report_obligations` the text of an outline's obligations (`specs/Obligations.antt`), byte for byte and one line at a time. That
-//! text has the givens and the goal of each obligation as they are to follow (`specs/Meaning.antt`). A report answers `Write` only
+//! text has the givens and the goal of each obligation as they are to follow (`specs/Meaning.antt`). `report_judgement` puts the text of
+//! a judgement, with the true atoms of a rejection (`specs/Judged.antt`). A report answers `Write` only
 //! where the sink's count of faults rose; then, and where memory runs out, a prefix of its text at most is written, and of a single
 //! line nothing where memory runs out.
 #![tactic(auto)]
 
 mod fault;
 mod fresh;
+mod judged;
 mod laws;
 mod lines;
 mod obligations;
 mod refusal;
 
 pub use fault::ReportFault;
-pub use laws::what_is_printed_is_meant;
+pub use judged::report_judgement;
+pub use laws::{outcomes_are_told, what_is_printed_is_meant};
 pub use obligations::report_obligations;
 pub use refusal::report_file_fault;

@@ -72,7 +72,7 @@ fn obligation_text(
 }
 
 /// Appends the line with the number and the kind.
-fn append_heading(i: u32, obligation: Obligation, text: &mut Vec<u8>) -> Result<(), AllocError>
+pub fn append_heading(i: u32, obligation: Obligation, text: &mut Vec<u8>) -> Result<(), AllocError>
     ensures { OnOk result (text.new.items ≡ text.old.items ++ spec.heading i obligation) }
 {
     append_number(i, text)?;
@@ -224,7 +224,7 @@ fn append_crash(label: &[u8], o: &Outline, text: &mut Vec<u8>) -> Result<(), All
     text.extend_from_slice(b"\n")
 }
 
-fn append_number(number: u32, text: &mut Vec<u8>) -> Result<(), AllocError>
+pub fn append_number(number: u32, text: &mut Vec<u8>) -> Result<(), AllocError>
     ensures { OnOk result (text.new.items ≡ text.old.items ++ decimal number) }
 {
     text.extend_from_slice(Buffer::new().format(number).as_bytes())

@@ -1,5 +1,4 @@
 -- The lines of the program's fresh state are those of what is given of it.
-use Rattle.std.proofs.Common.{sym}
 use Rattle.pg_report.proofs.FreshLines.{fresh_are}
 use Rattle.pg_report.proofs.fresh.append_fresh.Goals as goal
 

@@ -1,6 +1,4 @@
 -- The three givens of an interference stand one behind the other.
-use Rattle.std.proofs.Common.{◌++◌}
-use Rattle.std.specs.Prelude.{codes}
 use Rattle.pg_outline.specs.Outline.{note_at}
 use Rattle.pg_report.specs.Obligations.{given_line, assertion, crash}
 use Rattle.pg_report.proofs.Appended.{on_ok, three-appended}
