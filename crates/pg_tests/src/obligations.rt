@@ -63,11 +63,11 @@ fn kind(alloc: Global, obligation: Obligation) -> Result<String, Fail> {
 fn kinds(alloc: Global, o: &Outline) -> Result<String, Fail> {
     let obligations = Obligations::of(o);
     let mut text = String::new(alloc);
-    for i in 1..obligations.count() + 1 {
-        if i > 1 {
+    for i in 0..obligations.count() {
+        if i > 0 {
             text.push_str(", ")?;
         }
-        text.push_str(&kind(alloc, obligations.shape(i))?)?;
+        text.push_str(&kind(alloc, obligations.shape(i + 1))?)?;
     }
     Ok(text)
 }
