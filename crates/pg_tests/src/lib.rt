@@ -25,8 +25,6 @@ mod names;
 #[cfg(test)]
 mod numbering;
 #[cfg(test)]
-mod obligations;
-#[cfg(test)]
 mod outlines;
 #[cfg(test)]
 mod paths;
