@@ -1,7 +1,8 @@
-mod Accepted
-mod Paths
+mod Numbers
 mod Puts
 mod Faults
+mod Judged
+mod Files
 mod Statuses
 mod Endings
 mod OneAnswer

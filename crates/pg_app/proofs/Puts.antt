@@ -1,9 +1,12 @@
 -- What is put for one reason is put for another.
-use Rattle.std.proofs.Common.{◌≡◌, ℕ, ◌⊎◌, inl, inr, List, length, Option, sym, subst}
+use Rattle.std.proofs.Common.{◌≡◌, ℕ, ◌⊎◌, inl, inr, List, length, Option, refl}
+use Rattle.std.specs.Prelude.{Result, Ok, Err}
 use Rattle.std.proofs.Math.Seq.{take-length}
-use Rattle.pg_io.specs.Counts.{Rose}
 use Rattle.pg_io.specs.Written.{appended, AppendsPart}
-use Rattle.pg_app.specs.Put.{IsPart, Puts}
+use Rattle.pg_report.specs.declared.fault.ReportFault.{ReportFault}
+use Rattle.pg_report.specs.declared.fault.ReportFault.TheVariants.{Write, NoMemory}
+use Rattle.pg_report.specs.Reported.{ReportsLines}
+use Rattle.pg_app.specs.Put.{IsPart, Puts, status_after}
 
 -- the whole of a text is a part of it
 pub whole_is_part : (old new : Option (List ℕ)) (text : List ℕ) → new ≡ appended old text → AppendsPart old new text
@@ -23,10 +26,11 @@ module _ (P Q : ℕ → List ℕ → Type 0) (f : (s : ℕ) (text : List ℕ) �
   puts_map status old new before now (inr (inl cut)) = inr (inl (record { status_is = cut.status_is; rose = cut.rose; part = part_map old new cut.part }))
   puts_map status old new before now (inr (inr spent)) = inr (inr (record { status_is = spent.status_is; part = rest_map old new spent.part }))
 
--- a line that is due, and was put, is a put of what is due
-pub line_put : {status : ℕ} {old new : Option (List ℕ)} {before now : ℕ} (P : ℕ → List ℕ → Type 0) (due : ℕ) (line : List ℕ) → P due line
-    → Puts (λ s text. (s ≡ due) × (text ≡ line)) status old new before now → Puts P status old new before now
-line_put {status} {old} {new} {before} {now} P due line is puts =
-    puts_map (λ s text. (s ≡ due) × (text ≡ line)) P
-    (λ s text same. subst (λ (t : List ℕ). P s t) (sym same.1) (subst (λ (n : ℕ). P n line) (sym same.0) is))
-    status old new before now puts
+-- what a report of lines leaves is a put of its text
+pub report_puts : (text : List ℕ) (report : Result (Unit {0}) ReportFault) (status : ℕ) (old new : Option (List ℕ)) (before now : ℕ) → ReportsLines text report old new before now
+    → Puts (λ due line. (due ≡ status) × (line ≡ text)) (status_after report status) old new before now
+report_puts text (Ok u) status old new before now left = inl (record { text = text; due = (refl, refl); written = left })
+report_puts text (Err Write) status old new before now left =
+    inr (inl (record { status_is = refl; rose = left.1; part = record { status = status; text = text; due = (refl, refl); written = left.0 } }))
+report_puts text (Err NoMemory) status old new before now left =
+    inr (inr (record { status_is = refl; part = inr (record { status = status; text = text; due = (refl, refl); written = left }) }))

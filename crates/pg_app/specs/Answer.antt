@@ -1,26 +1,36 @@
 -- The answers: a status and a text for each. Status 0 is that every obligation follows, or that a text was printed; 1 that an
--- obligation does not follow; 3 that the file stands for no outline, or for one that is not judged yet; 8 that the words are no
--- command; and 10 that a file is longer than its limit.
+-- obligation does not follow; 2 that the budget was spent on one; 3 that the first file stands for no outline; 8 that the words are
+-- no command; and 10 that a file is longer than its limit.
 use Rattle.std.specs.Prelude.{◌≡◌, ℕ, ◌<◌, ◌≤◌, ◌⊎◌, List, length, Option, None, Some, IsSomeAnd, String}
 use Rattle.std.specs.declared.alloc.Global.{Global}
 use Rattle.pg_outline.specs.Outline.{OutlineTable}
 use Rattle.pg_outline_text.specs.Text.{StandsFor}
 use Rattle.pg_outline_text.specs.Fault.{Fault, first_fault}
+use Rattle.pg_judge.specs.Outcome.{Outcome, accepted, rejected, spent, IsOutcome}
+use Rattle.pg_judge.specs.Laws.{Says}
 use Rattle.pg_report.specs.Refusal.{refusal}
 use Rattle.pg_report.specs.Obligations.{obligations_text}
-use Rattle.pg_app.specs.declared.judge.Outcome.{Outcome}
+use Rattle.pg_report.specs.Judged.{judgement_text}
+use Rattle.pg_app.specs.declared.file.Kind.{Kind}
+use Rattle.pg_app.specs.declared.file.Kind.TheVariants.{Outline}
 use Rattle.pg_app.specs.Line.{usage, too_long}
-use Rattle.pg_app.specs.Outcome.{IsOutcome, status_of, line_of}
-use Rattle.pg_app.specs.Command.{Command, check, obligations, command_of, File, outline_file}
+use Rattle.pg_app.specs.File.{File, outline_file, limit}
+use Rattle.pg_app.specs.Command.{Command, check, obligations, command_of}
 
 -- ---- the work of the commands
 
--- `check`: what the outline is judged as
-pub record IsJudged (o : OutlineTable) (status : ℕ) (text : List ℕ) : Type 0 where
+abbrev pub status_of : Outcome → ℕ
+status_of (accepted count nodes) = 0
+status_of (rejected i truths) = 1
+status_of (spent i) = 2
+
+-- `check`: the outcome of the outline under the budget, and what it says of the outline holds
+pub record IsJudged (budget : ℕ) (o : OutlineTable) (status : ℕ) (text : List ℕ) : Type 0 where
   pub outcome : Outcome
-  pub is : IsOutcome o outcome
+  pub is : IsOutcome o budget outcome
+  pub says : Says o outcome
   pub status_is : status ≡ status_of outcome
-  pub text_is : text ≡ line_of outcome
+  pub text_is : text ≡ judgement_text o outcome
 
 -- `obligations`: the text of all of them
 pub record IsListed (o : OutlineTable) (status : ℕ) (text : List ℕ) : Type 0 where
@@ -34,6 +44,22 @@ pub data Found : Type 0 where
   whole : List ℕ → Found
   longer : Found
 
+-- the file is longer than its limit
+pub record IsOverlong (Finds : File → Found → Type 0) (file : File) (status : ℕ) (text : List ℕ) : Type 0 where
+  pub finds : Finds file longer
+  pub status_is : status ≡ 10
+  pub text_is : text ≡ too_long file.name
+
+-- the file has these bytes, and they are taken so
+pub record IsRead (Finds : File → Found → Type 0) (file : File) (Takes : List ℕ → ℕ → List ℕ → Type 0) (status : ℕ) (text : List ℕ) : Type 0 where
+  pub bytes : List ℕ
+  pub finds : Finds file (whole bytes)
+  pub answers : Takes bytes status text
+
+-- the answer to a file whose bytes are taken so, where `Finds` says what is found of files
+abbrev pub OnFile : (File → Found → Type 0) → File → (List ℕ → ℕ → List ℕ → Type 0) → ℕ → List ℕ → Type 0
+OnFile Finds file Takes status text = IsOverlong Finds file status text ⊎ IsRead Finds file Takes status text
+
 -- the bytes stand for no outline, and this is their first fault
 pub record IsRefusal (bytes : List ℕ) (status : ℕ) (text : List ℕ) : Type 0 where
   pub fault : Fault
@@ -41,34 +67,30 @@ pub record IsRefusal (bytes : List ℕ) (status : ℕ) (text : List ℕ) : Type 
   pub status_is : status ≡ 3
   pub text_is : text ≡ refusal fault
 
+-- the bytes are refused as those of such a file
+abbrev pub IsRefused : Kind → List ℕ → ℕ → List ℕ → Type 0
+IsRefused Outline bytes status text = IsRefusal bytes status text
+
 -- the bytes stand for an outline, on which the work is done
 pub record IsDone (Work : OutlineTable → ℕ → List ℕ → Type 0) (bytes : List ℕ) (status : ℕ) (text : List ℕ) : Type 0 where
   pub outline : OutlineTable
   pub stands : StandsFor bytes outline
   pub work : Work outline status text
 
--- the file is longer than its limit
-pub record IsOverlong (Finds : File → Found → Type 0) (file : File) (status : ℕ) (text : List ℕ) : Type 0 where
-  pub finds : Finds file longer
-  pub status_is : status ≡ 10
-  pub text_is : text ≡ too_long file.name
+-- the bytes are refused, or the work is done on their outline
+abbrev pub AsOutline : (OutlineTable → ℕ → List ℕ → Type 0) → List ℕ → ℕ → List ℕ → Type 0
+AsOutline Work bytes status text = IsRefusal bytes status text ⊎ IsDone Work bytes status text
 
--- the file has these bytes, which are refused or on which the work is done
-pub record IsRead (Finds : File → Found → Type 0) (file : File) (Work : OutlineTable → ℕ → List ℕ → Type 0) (status : ℕ) (text : List ℕ) : Type 0 where
-  pub bytes : List ℕ
-  pub finds : Finds file (whole bytes)
-  pub answers : IsRefusal bytes status text ⊎ IsDone Work bytes status text
-
--- the answer of some work on the outline in a file, where `Finds` says what is found of files
-abbrev pub OnOutline : (File → Found → Type 0) → File → (OutlineTable → ℕ → List ℕ → Type 0) → ℕ → List ℕ → Type 0
-OnOutline Finds file Work status text = IsOverlong Finds file status text ⊎ IsRead Finds file Work status text
+-- the answer of some work on the outline in the file of this name
+abbrev pub OnOutline : (File → Found → Type 0) → List ℕ → (OutlineTable → ℕ → List ℕ → Type 0) → ℕ → List ℕ → Type 0
+OnOutline Finds name Work status text = OnFile Finds (outline_file name) (AsOutline Work) status text
 
 -- ---- commands
 
 -- the answer to a command
 abbrev pub Answers : (File → Found → Type 0) → Command → ℕ → List ℕ → Type 0
-Answers Finds (check name) status text = OnOutline Finds (outline_file name) IsJudged status text
-Answers Finds (obligations name) status text = OnOutline Finds (outline_file name) IsListed status text
+Answers Finds (check name budget) status text = OnOutline Finds name (IsJudged budget) status text
+Answers Finds (obligations name) status text = OnOutline Finds name IsListed status text
 
 -- and to words that are a command or none
 abbrev pub AnswersTo : (File → Found → Type 0) → Option Command → ℕ → List ℕ → Type 0
@@ -77,8 +99,8 @@ AnswersTo Finds (Some command) status text = Answers Finds command status text
 
 -- what is found of a file where the bytes of names are told
 abbrev pub Tells : (List ℕ → Option (List ℕ)) → File → Found → Type 0
-Tells told file (whole bytes) = (told file.name ≡ Some bytes) × (length bytes ≤ file.limit)
-Tells told file longer = IsSomeAnd (told file.name) (λ bytes. file.limit < length bytes)
+Tells told file (whole bytes) = (told file.name ≡ Some bytes) × (length bytes ≤ limit file)
+Tells told file longer = IsSomeAnd (told file.name) (λ bytes. limit file < length bytes)
 
 -- the answer to the words, where the bytes of names are told
 abbrev pub Defined : List (String Global) → (List ℕ → Option (List ℕ)) → ℕ → List ℕ → Type 0

@@ -1,32 +1,49 @@
 -- The commands: what the words of the command line ask for, and the files that a command reads.
-use Rattle.std.specs.Prelude.{ℕ, List, [], ◌∷◌, bytes_eq, codes, Option, None, Some, String, string_bytes, if◌then◌else◌}
+use Rattle.std.specs.Prelude.{ℕ, ◌≤◌, List, [], ◌∷◌, bytes_eq, codes, Option, None, Some, option_map, option_and_then, String, string_bytes, if◌then◌else◌}
 use Rattle.std.specs.declared.alloc.Global.{Global}
+use Rattle.pg_judge.specs.Limits.{most_budget}
 use Rattle.pg_app.specs.declared.command.Command as code
 use Rattle.pg_app.specs.declared.command.Command.TheVariants as variant
+use Rattle.pg_app.specs.File.{File, outline_file}
+use Rattle.pg_app.specs.Number.{number_up_to}
 
--- to judge the outline in the file of this name, or to print its obligations
+-- to judge the outline in the file of this name under a budget of nodes, or to print its obligations
 pub data Command : Type 0 where
-  check : List ℕ → Command
-  obligations : List ℕ → Command
+  check : (name : List ℕ) (budget : ℕ) → Command
+  obligations : (name : List ℕ) → Command
 
 -- ---- words
 
 -- a NAME is any text that is not empty
-abbrev pub named : (List ℕ → Command) → List ℕ → Option Command
-named command [] = None
-named command (b ∷ bs) = Some (command (b ∷ bs))
+abbrev pub name_in : List ℕ → Option (List ℕ)
+name_in [] = None
+name_in (b ∷ bs) = Some (b ∷ bs)
 
--- `check NAME`
+-- the BUDGET where none is given
+abbrev pub default_budget : ℕ
+default_budget = 100000
+
+-- `[BUDGET]`
+abbrev pub budget_in : List (String Global) → Option ℕ
+budget_in [] = Some default_budget
+budget_in (word ∷ []) = number_up_to most_budget (string_bytes word)
+budget_in (word ∷ other ∷ more) = None
+
+-- `NAME [BUDGET]`
+abbrev pub name_and_budget : List (String Global) → Option (List ℕ × ℕ)
+name_and_budget [] = None
+name_and_budget (word ∷ rest) =
+    option_and_then (λ name. option_map (λ budget. (name, budget)) (budget_in rest)) (name_in (string_bytes word))
+
+-- `check NAME [BUDGET]`
 abbrev pub check_of : List (String Global) → Option Command
-check_of (name ∷ []) = named check (string_bytes name)
-check_of [] = None
-check_of (name ∷ other ∷ more) = None
+check_of words = option_map (λ said. check said.0 said.1) (name_and_budget words)
 
 -- `obligations NAME`
 abbrev pub obligations_of : List (String Global) → Option Command
-obligations_of (name ∷ []) = named obligations (string_bytes name)
 obligations_of [] = None
-obligations_of (name ∷ other ∷ more) = None
+obligations_of (word ∷ []) = option_map obligations (name_in (string_bytes word))
+obligations_of (word ∷ other ∷ more) = None
 
 -- the command that begins with this word
 abbrev pub begun : List ℕ → List (String Global) → Option Command
@@ -41,25 +58,23 @@ command_of (word ∷ rest) = begun (string_bytes word) rest
 
 -- a command as the code has it
 abbrev pub asked : code.Command → Command
-asked (variant.Check name) = check name.now
+asked (variant.Check name budget) = check name.now budget
 asked (variant.Obligations name) = obligations name.now
+
+-- a budget that may be given
+abbrev pub IsBudget : ℕ → Type 0
+IsBudget budget = (1 ≤ budget) × (budget ≤ most_budget)
+
+-- that of a command is one
+abbrev pub HasBudget : code.Command → Type 0
+HasBudget (variant.Check name budget) = IsBudget budget
+HasBudget (variant.Obligations name) = Unit {0}
 
 -- ---- files
 
--- a file by its name, with the most bytes that it may have
-pub record File : Type 0 where
-  pub name : List ℕ
-  pub limit : ℕ
-
-abbrev pub longest_outline : ℕ
-longest_outline = 1048576
-
-abbrev pub outline_file : List ℕ → File
-outline_file name = record { name = name; limit = longest_outline }
-
 -- the files that a command reads, in the order in which they are fetched
 abbrev pub files_of : Command → List File
-files_of (check name) = outline_file name ∷ []
+files_of (check name budget) = outline_file name ∷ []
 files_of (obligations name) = outline_file name ∷ []
 
 abbrev pub files_for : Option Command → List File

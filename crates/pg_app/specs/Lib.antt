@@ -1,6 +1,6 @@
 pub mod Line
-pub mod Path
-pub mod Outcome
+pub mod Number
+pub mod File
 pub mod Safety
 pub mod Command
 pub mod Answer

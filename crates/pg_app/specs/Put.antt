@@ -1,9 +1,11 @@
 -- How a text with its status comes to be put on a sink. `Due status text` says which statuses and
 -- texts are due; `old` and `new` are what the sink tells it has written, and `before` and `now` are
 -- its counts of faults.
-use Rattle.std.specs.Prelude.{◌≡◌, ℕ, ◌⊎◌, List, Option}
+use Rattle.std.specs.Prelude.{◌≡◌, ℕ, ◌⊎◌, List, Option, Result, Ok, Err}
 use Rattle.pg_io.specs.Counts.{Rose}
 use Rattle.pg_io.specs.Written.{appended, AppendsPart}
+use Rattle.pg_report.specs.declared.fault.ReportFault.{ReportFault}
+use Rattle.pg_report.specs.declared.fault.ReportFault.TheVariants.{Write, NoMemory}
 
 -- the text was written whole, and its status is the answer
 pub record IsWhole (Due : ℕ → List ℕ → Type 0) (status : ℕ) (old new : Option (List ℕ)) : Type 0 where
@@ -32,3 +34,9 @@ pub record IsSpent (Due : ℕ → List ℕ → Type 0) (status : ℕ) (old new :
 abbrev pub Puts : (ℕ → List ℕ → Type 0) → ℕ → Option (List ℕ) → Option (List ℕ) → ℕ → ℕ → Type 0
 Puts Due status old new before now =
     IsWhole Due status old new ⊎ (IsCut Due status old new before now ⊎ IsSpent Due status old new)
+
+-- the status after a report, where this is that of its text
+abbrev pub status_after : Result (Unit {0}) ReportFault → ℕ → ℕ
+status_after (Ok u) status = status
+status_after (Err Write) status = 7
+status_after (Err NoMemory) status = 9

@@ -1,19 +1,20 @@
 -- How a call of the program ends. `told` gives the bytes of a name, where the room tells them;
 -- `old` and `new` are what the sink tells it has written.
-use Rattle.std.specs.Prelude.{◌≡◌, ◌≢◌, ℕ, ◌+◌, ◌≤◌, ◌⊎◌, List, [], ◌∷◌, length, Option, None, Some, IsSome, IsNone, IfSome, IfNone, All, Contains, String}
+use Rattle.std.specs.Prelude.{◌≡◌, ◌≢◌, ℕ, ◌+◌, ◌≤◌, ◌⊎◌, List, [], ◌∷◌, length, Option, IsSome, IsNone, IfSome, IfNone, All, Contains, String}
 use Rattle.std.specs.declared.alloc.Global.{Global}
 use Rattle.pg_io.specs.Counts.{Rose, RoseBy}
 use Rattle.pg_io.specs.Told.{IsTold, IsTooLong}
 use Rattle.pg_io.specs.Written.{appended, AppendsPart}
 use Rattle.pg_app.specs.Line.{usage}
-use Rattle.pg_app.specs.Command.{Command, command_of, File, files_for, files_in}
+use Rattle.pg_app.specs.File.{File, limit, IsTextOf}
+use Rattle.pg_app.specs.Command.{Command, command_of, files_for, files_in}
 use Rattle.pg_app.specs.Answer.{Found, whole, longer, AnswersTo, Defined}
 use Rattle.pg_app.specs.Put.{Puts}
-use Rattle.pg_app.specs.Safety.{IsOutlineText, Claims}
+use Rattle.pg_app.specs.Safety.{Claims}
 
 -- the statuses of the program
 abbrev pub statuses : List ℕ
-statuses = 0 ∷ 1 ∷ 3 ∷ 6 ∷ 7 ∷ 8 ∷ 9 ∷ 10 ∷ []
+statuses = 0 ∷ 1 ∷ 2 ∷ 3 ∷ 6 ∷ 7 ∷ 8 ∷ 9 ∷ 10 ∷ []
 
 -- the status of an answer: no fetch failed, no put failed, and memory did not run out
 pub record IsAnswer (status : ℕ) : Type 0 where
@@ -31,10 +32,10 @@ AreTold files told = All (λ file. IsSome (told file.name)) files
 abbrev pub AreQuiet : List File → (List ℕ → ℕ) → (List ℕ → ℕ) → Type 0
 AreQuiet files faults faults_now = All (λ file. ¬ Rose (faults file.name) (faults_now file.name)) files
 
--- bytes after which the next file is fetched: they are within the file's limit, and stand for an outline
+-- bytes after which the next file is fetched: they are within the file's limit, and what the file is to have
 pub record IsPassed (file : File) (bytes : List ℕ) : Type 0 where
-  pub within : length bytes ≤ file.limit
-  pub outline : IsOutlineText bytes
+  pub within : length bytes ≤ limit file
+  pub is : IsTextOf file.kind bytes
 
 -- one of the files is so, and it was fetched: each file before it was passed
 abbrev pub Reached : (List ℕ → Option (List ℕ)) → List File → (File → Type 0) → Type 0
@@ -66,8 +67,8 @@ pub record WritesPart (words : List (String Global)) (told : List ℕ → Option
 -- What a fetch finds of a file: its bytes, which are those that are told, if any; or that it is too long, and then its bytes are,
 -- where they are told, and more bytes were taken than it may have.
 abbrev pub Fetches : (List ℕ → Option (List ℕ)) → ℕ → ℕ → File → Found → Type 0
-Fetches told taken taken_now file (whole bytes) = IsTold (told file.name) bytes × (length bytes ≤ file.limit)
-Fetches told taken taken_now file longer = IsTooLong (told file.name) file.limit × RoseBy (file.limit + 1) taken taken_now
+Fetches told taken taken_now file (whole bytes) = IsTold (told file.name) bytes × (length bytes ≤ limit file)
+Fetches told taken taken_now file longer = IsTooLong (told file.name) (limit file) × RoseBy (limit file + 1) taken taken_now
 
 -- a file was not fetched, as its count of faults rose, and nothing was written
 pub record IsUnfetched (told : List ℕ → Option (List ℕ)) (files : List File) (faults faults_now : List ℕ → ℕ) (status : ℕ) (old new : Option (List ℕ)) : Type 0 where
@@ -87,7 +88,7 @@ pub record IsRun (words : List (String Global)) (told : List ℕ → Option (Lis
   pub read_fault : status ≡ 6 → Reached told (files_in words) (λ file. Rose (faults file.name) (faults_now file.name))
   pub nothing_read : status ≡ 6 → new ≡ old
   pub write_fault : status ≡ 7 → Rose before now
-  pub too_long : status ≡ 10 → Reached told (files_in words) (λ file. RoseBy (file.limit + 1) taken taken_now)
+  pub too_long : status ≡ 10 → Reached told (files_in words) (λ file. RoseBy (limit file + 1) taken taken_now)
   pub usage : status ≡ 8 → IsNone (command_of words) × (new ≡ appended old usage)
   pub shapeless : IfNone (command_of words) (status ≡ 8 ⊎ (status ≡ 7 ⊎ status ≡ 9))
   pub defined : AreTold (files_in words) told → IsAnswer status → Writes words told status old new

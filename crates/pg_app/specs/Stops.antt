@@ -1,10 +1,10 @@
--- How the fetch of an outline ends: with the outline, or with the end of the call.
+-- How the fetch of a file ends: with what it is of, or with the end of the call.
 use Rattle.std.specs.Prelude.{◌≡◌, ℕ, ◌⊎◌, List, Option}
 use Rattle.pg_io.specs.Counts.{Rose}
 use Rattle.pg_outline.specs.Outline.{OutlineTable}
 use Rattle.pg_outline_text.specs.Text.{StandsFor}
-use Rattle.pg_app.specs.Command.{File}
-use Rattle.pg_app.specs.Answer.{whole, OnOutline}
+use Rattle.pg_app.specs.File.{File}
+use Rattle.pg_app.specs.Answer.{whole, OnFile, IsRefused}
 use Rattle.pg_app.specs.Put.{Puts}
 use Rattle.pg_app.specs.Run.{Fetches}
 
@@ -14,18 +14,14 @@ pub record IsFetched (told : List ℕ → Option (List ℕ)) (taken taken_now : 
   pub finds : Fetches told taken taken_now file (whole bytes)
   pub stands : StandsFor bytes o
 
--- no work is done
-abbrev pub Nothing : OutlineTable → ℕ → List ℕ → Type 0
-Nothing o status text = ⊥
-
 -- the file's count of faults rose, and nothing was written
 pub record IsFailed (faults faults_now status : ℕ) (old new : Option (List ℕ)) : Type 0 where
   pub status_is : status ≡ 6
   pub rose : Rose faults faults_now
   pub kept : new ≡ old
 
--- the refusal of the file was put, or the file could not be fetched
+-- that the file is too long was put, or the refusal of its bytes, or the file could not be fetched
 pub record Stops (told : List ℕ → Option (List ℕ)) (file : File) (faults faults_now taken taken_now status : ℕ) (old new : Option (List ℕ)) (before now : ℕ) : Type 0 where
   pub how :
-      Puts (OnOutline (Fetches told taken taken_now) file Nothing) status old new before now
+      Puts (OnFile (Fetches told taken taken_now) file (IsRefused file.kind)) status old new before now
       ⊎ IsFailed faults faults_now status old new

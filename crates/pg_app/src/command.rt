@@ -1,20 +1,28 @@
 //! The commands. What is promised is which words are which command.
 
-ghost use Rattle.std.specs.Prelude.{◌≡◌, option_map, string_bytes};
+ghost use Rattle.std.specs.Prelude.{◌≡◌, ◌≤◌, IfSome, option_map, string_bytes};
 ghost use Rattle.pg_app.specs.Command as spec;
+ghost use Rattle.pg_app.specs.Number.{number_up_to, read_on, up_to};
+
+use pg_judge::MAX_BUDGET;
+
+// The budget where none is given.
+const DEFAULT_BUDGET: u32 = 100_000;
 
 /// What the words ask for. This project's own.
 #[derive(Clone, Copy)]
 pub enum Command<'a> {
-    /// To judge the outline in a file.
-    Check { name: &'a str },
+    /// To judge the outline in a file under a budget of nodes.
+    Check { name: &'a str, budget: u32 },
     /// To print the obligations of the outline in a file.
     Obligations { name: &'a str },
 }
 
-/// The command that the words are, if they have one of the shapes `check NAME` and `obligations NAME`. A name is not empty.
+/// The command that the words are, if they have one of the shapes `check NAME [BUDGET]` and `obligations NAME`. A name is not empty, and
+/// a budget is a number from 1 to 1,000,000 in decimal digits without a leading zero.
 pub fn command_of(words: &[String]) -> Option<Command<'_>>
-    ensures { option_map spec.asked result ≡ spec.command_of words.now }
+    ensures asked { option_map spec.asked result ≡ spec.command_of words.now }
+    ensures budget { IfSome result spec.HasBudget }
 {
     let [word, rest @ ..] = words else {
         return None;
@@ -28,24 +36,86 @@ pub fn command_of(words: &[String]) -> Option<Command<'_>>
 
 // `check`, with what is behind it.
 fn check_of(words: &[String]) -> Option<Command<'_>>
-    ensures { option_map spec.asked result ≡ spec.check_of words.now }
+    ensures asked { option_map spec.asked result ≡ spec.check_of words.now }
+    ensures budget { IfSome result spec.HasBudget }
+{
+    let (name, budget) = name_and_budget(words)?;
+    Some(Command::Check { name, budget })
+}
+
+// `obligations`, with what is behind it.
+fn obligations_of(words: &[String]) -> Option<Command<'_>>
+    ensures asked { option_map spec.asked result ≡ spec.obligations_of words.now }
+    ensures budget { IfSome result spec.HasBudget }
 {
     match words {
-        [name] if !name.is_empty() => Some(Command::Check {
-            name: name.as_str(),
+        [word] => Some(Command::Obligations {
+            name: name_in(word)?,
         }),
         _ => None,
     }
 }
 
-// `obligations`, with what is behind it.
-fn obligations_of(words: &[String]) -> Option<Command<'_>>
-    ensures { option_map spec.asked result ≡ spec.obligations_of words.now }
+// A name and a budget, which may be left out.
+fn name_and_budget(words: &[String]) -> Option<(&str, u32)>
+    ensures said { option_map (λ said. (said.0.now, said.1)) result ≡ spec.name_and_budget words.now }
+    ensures budget { IfSome result (λ said. spec.IsBudget said.1) }
+{
+    let [word, rest @ ..] = words else {
+        return None;
+    };
+    let name = name_in(word)?;
+    let budget = budget_in(rest)?;
+    Some((name, budget))
+}
+
+// A name, unless the word is empty.
+fn name_in(word: &String) -> Option<&str>
+    ensures { option_map (λ name. name.now) result ≡ spec.name_in (string_bytes word.now) }
+{
+    if word.is_empty() {
+        return None;
+    }
+    Some(word.as_str())
+}
+
+// A budget, or the one that stands for none.
+fn budget_in(words: &[String]) -> Option<u32>
+    ensures given { result ≡ spec.budget_in words.now }
+    ensures budget { IfSome result spec.IsBudget }
 {
     match words {
-        [name] if !name.is_empty() => Some(Command::Obligations {
-            name: name.as_str(),
-        }),
+        [] => Some(DEFAULT_BUDGET),
+        [word] => number_of(word.as_str(), MAX_BUDGET),
         _ => None,
     }
+}
+
+// The number from 1 to `most` that a word is.
+fn number_of(word: &str, most: u32) -> Option<u32>
+    ensures number { result ≡ number_up_to most word.now }
+    ensures within { IfSome result (λ n. (1 ≤ n) × (n ≤ most)) }
+{
+    let digits = word.as_bytes();
+    match digits {
+        [] | [b'0', ..] => None,
+        _ => value_of(digits, most),
+    }
+}
+
+// The number that digits are, if it is not above `most`.
+fn value_of(digits: &[u8], most: u32) -> Option<u32>
+    ensures { result ≡ up_to most (read_on 0 digits.now) }
+{
+    let mut value: u64 = 0;
+    for digit in digits {
+        if !digit.is_ascii_digit() {
+            return None;
+        }
+        value = value * 10 + u64::from(*digit - b'0');
+        if value > u64::from(most) {
+            return None;
+        }
+    }
+    Some(value as u32)
 }

@@ -1,69 +1,56 @@
-//! Judging an outline. What is promised is that an outcome is the outline's own: accepted where each of its obligations follows,
-//! rejected with the first that does not, and not judged yet where it has not the first form.
+//! Judging an outline, and putting the text of its judgement. What is promised is that status and text are those of the outline's
+//! outcome under the budget.
 
-ghost use Rattle.std.specs.Prelude.{◌≡◌, IfOk};
-ghost use Rattle.pg_judge.specs.Form.{IsOfForm, outline};
-ghost use Rattle.pg_judge.specs.Path.{path, IsPath};
-ghost use Rattle.pg_app.specs.Answer.{IsJudged};
-ghost use Rattle.pg_app.specs.Outcome.{IsOutcome, IsPrintable, status_of};
+ghost use Rattle.std.specs.Prelude.{◌≡◌};
+ghost use Rattle.pg_judge.specs.Outcome.{outcome_of};
+ghost use Rattle.pg_report.specs.Judged.{IsToldOf, judgement_text};
+ghost use Rattle.pg_app.specs.Answer.{IsJudged, status_of};
+ghost use Rattle.pg_app.specs.Command.{IsBudget};
+ghost use Rattle.pg_app.specs.Put.{Puts};
 
-use crate::line::outcome_line;
-use crate::status::{ACCEPTED, REFUSED, REJECTED};
-use pg_judge::{PathJudgement, PathOutline, check_path, path_of};
+use crate::put::reported;
+use crate::status::{ACCEPTED, NO_MEMORY, REJECTED, SPENT};
+use pg_io::Sink;
+use pg_judge::{Judgement, check};
 use pg_outline::Outline;
-use std::alloc::{AllocError, Global};
+use pg_report::{outcomes_are_told, report_judgement};
+use std::alloc::Global;
 
-/// What an outline is judged as.
-#[derive(Clone, Copy, Debug, PartialEq, Eq)]
-pub enum Outcome {
-    /// All obligations follow, and there are this many.
-    Accepted { count: u32 },
-    /// The first obligation that does not follow, by its number from 1.
-    Rejected { i: u32 },
-    /// The outline has not the first form.
-    NotYet,
-}
-
-/// The status and the line of what an outline is judged as.
-pub fn judged_line(alloc: Global, outline: &Outline) -> Result<(u8, Vec<u8>), AllocError>
-    ensures { IfOk result (λ answer. IsJudged outline.now answer.0 answer.1.items) }
+/// Judges an outline under a budget of nodes, and puts the text of the judgement.
+pub fn judge_outline<K: Sink>(alloc: Global, outline: &Outline, budget: u32, out: &mut K) -> u8
+    requires budget { IsBudget budget }
+    ensures { Puts (IsJudged budget outline.now)
+        result (K.written out.old) (K.written out.new) (K.faults out.old) (K.faults out.new) }
 {
-    let outcome = judged(alloc, outline)?;
-    let line = outcome_line(alloc, outcome)?;
-    Ok((outcome_status(outcome), line))
-}
-
-// The status of an outcome.
-fn outcome_status(outcome: Outcome) -> u8
-    ensures { result ≡ status_of outcome }
-{
-    match outcome {
-        Outcome::Accepted { .. } => ACCEPTED,
-        Outcome::Rejected { .. } => REJECTED,
-        Outcome::NotYet => REFUSED,
+    outcomes_are_told();
+    match check(alloc, outline, budget) {
+        Ok(judgement) => put_judgement(alloc, outline, &judgement, out),
+        Err(_) => NO_MEMORY,
     }
 }
 
-/// Judges an outline.
-fn judged(alloc: Global, outline: &Outline) -> Result<Outcome, AllocError>
-    ensures outcome { IfOk result (IsOutcome outline.now) }
-    ensures printable { IfOk result IsPrintable }
+// Puts the text of a judgement.
+fn put_judgement<K: Sink>(
+    alloc: Global,
+    outline: &Outline,
+    judgement: &Judgement,
+    out: &mut K,
+) -> u8
+    requires { IsToldOf outline.now (outcome_of judgement.now) }
+    ensures { Puts (λ due text. (due ≡ status_of (outcome_of judgement.now)) × (text ≡ judgement_text outline.now (outcome_of judgement.now)))
+        result (K.written out.old) (K.written out.new) (K.faults out.old) (K.faults out.new) }
 {
-    match path_of(alloc, outline)? {
-        Some(path) => judged_path(alloc, &path),
-        None => Ok(Outcome::NotYet),
-    }
+    let status = judgement_status(judgement);
+    reported(report_judgement(alloc, outline, judgement, out), status)
 }
 
-/// Judges an outline of the first form, by its path.
-fn judged_path(alloc: Global, o: &PathOutline<'_>) -> Result<Outcome, AllocError>
-    requires path { IsPath (path o.now) }
-    requires form { IsOfForm (outline o.now) }
-    ensures outcome { IfOk result (IsOutcome (outline o.now)) }
-    ensures printable { IfOk result IsPrintable }
+// The status of a judgement.
+fn judgement_status(judgement: &Judgement) -> u8
+    ensures { result ≡ status_of (outcome_of judgement.now) }
 {
-    Ok(match check_path(alloc, o)? {
-        PathJudgement::Accepted { count } => Outcome::Accepted { count },
-        PathJudgement::Rejected { i } => Outcome::Rejected { i },
-    })
+    match judgement {
+        Judgement::Accepted { .. } => ACCEPTED,
+        Judgement::Rejected { .. } => REJECTED,
+        Judgement::Spent { .. } => SPENT,
+    }
 }

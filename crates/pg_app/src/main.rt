@@ -1,6 +1,6 @@
-//! A checker of proof outlines for concurrent programs on persistent memory: `check NAME` judges
-//! the outline in the file NAME, and `obligations NAME` prints what there is to prove of it. Each
-//! writes its text to standard output, and ends with a status.
+//! A checker of proof outlines for concurrent programs on persistent memory: `check NAME [BUDGET]`
+//! judges the outline in the file NAME, and `obligations NAME` prints what there is to prove of it.
+//! Each writes its text to standard output, and ends with a status.
 //!
 //! What is promised stands on `run`, the one call that the program makes over the files and
 //! standard output. A word that is not text ends the program with the status of words that are not
@@ -11,6 +11,7 @@ ghost use Rattle.std.specs.Prelude.{◌≡◌, ◌⊎◌, IfErr, Contains};
 ghost use Rattle.pg_app.specs.Run.{statuses};
 
 mod command;
+mod file;
 mod judge;
 mod line;
 mod put;

@@ -5,10 +5,9 @@ ghost use Rattle.std.specs.Prelude.{◌≡◌, ◌≢◌, ℕ, List};
 ghost use Rattle.pg_outline_text.specs.Fault.{IsFaultOrMemory};
 ghost use Rattle.pg_outline_text.specs.Text.{Tells};
 ghost use Rattle.pg_app.specs.Line.{too_long};
-ghost use Rattle.pg_app.specs.Answer.{IsJudged, IsListed, IsRefusal};
-ghost use Rattle.pg_app.specs.Put.{Puts};
+ghost use Rattle.pg_app.specs.Answer.{IsListed, IsRefusal};
+ghost use Rattle.pg_app.specs.Put.{Puts, status_after};
 
-use crate::judge::judged_line;
 use crate::line::too_long_line;
 use crate::status::{NO_MEMORY, NOT_WRITTEN, PRINTED, REFUSED, TOO_LONG};
 use pg_io::{Sink, SinkFault};
@@ -17,24 +16,20 @@ use pg_outline_text::FileFault;
 use pg_report::{ReportFault, report_file_fault, report_obligations};
 use std::alloc::Global;
 
-/// Judges an outline, and puts the line of what it is judged as.
-pub fn judge_outline<K: Sink>(alloc: Global, outline: &Outline, out: &mut K) -> u8
-    ensures { Puts (IsJudged outline.now)
-        result (K.written out.old) (K.written out.new) (K.faults out.old) (K.faults out.new) }
-{
-    match judged_line(alloc, outline) {
-        Ok((status, line)) => put_line(out, status, line.as_slice()),
-        Err(_) => NO_MEMORY,
-    }
-}
-
 /// Puts the text of an outline's obligations.
 pub fn list_obligations<K: Sink>(alloc: Global, outline: &Outline, out: &mut K) -> u8
     ensures { Puts (IsListed outline.now)
         result (K.written out.old) (K.written out.new) (K.faults out.old) (K.faults out.new) }
 {
-    match report_obligations(alloc, outline, out) {
-        Ok(()) => PRINTED,
+    reported(report_obligations(alloc, outline, out), PRINTED)
+}
+
+/// The status after a report, where this is that of its text.
+pub fn reported(report: Result<(), ReportFault>, status: u8) -> u8
+    ensures { result ≡ status_after report status }
+{
+    match report {
+        Ok(()) => status,
         Err(ReportFault::Write) => NOT_WRITTEN,
         Err(ReportFault::NoMemory) => NO_MEMORY,
     }

@@ -4,29 +4,30 @@
 //! failed fetch, a failed put and want of memory is the defined one for the words and the files, and
 //! its whole text was written. A failed fetch or put is answered only where a count of faults rose.
 
-ghost use Rattle.std.specs.Prelude.{◌≡◌, ◌≢◌, ◌⊎◌, ◌+◌, ◌≤◌, ℕ, List, length, Some, IsNone, IfSome, IfNone, IfOk, IfErr, OnOk, OnErr, Contains};
+ghost use Rattle.std.specs.Prelude.{◌≡◌, ◌⊎◌, ◌+◌, ◌≤◌, ℕ, List, length, Some, IsNone, IfSome, IfNone, IfOk, IfErr, OnOk, OnErr, Contains};
 ghost use Rattle.pg_io.specs.Counts.{Rose, RoseBy};
 ghost use Rattle.pg_io.specs.Written.{appended};
 ghost use Rattle.pg_outline_text.specs.Text.{StandsFor};
 ghost use Rattle.pg_app.specs.Line.{usage};
 ghost use Rattle.pg_app.specs.Command as spec;
 ghost use Rattle.pg_app.specs.Command.{files_in};
-ghost use Rattle.pg_app.specs.Answer.{IsRefusal};
+ghost use Rattle.pg_app.specs.File.{file_of, limit, longest, outline_file};
+ghost use Rattle.pg_app.specs.Answer.{IsRefusal, whole};
 ghost use Rattle.pg_app.specs.Put.{Puts};
 ghost use Rattle.pg_app.specs.Safety.{Claims};
-ghost use Rattle.pg_app.specs.Run.{statuses, AreQuiet, AreTold, HasOneAnswer, IsAnswer, IsRun, Reached, Writes, WritesPart, Ends};
+ghost use Rattle.pg_app.specs.Run.{statuses, AreQuiet, AreTold, HasOneAnswer, IsAnswer, IsRun, Reached, Writes, WritesPart, Ends, Fetches};
 ghost use Rattle.pg_app.specs.Stops.{IsFetched, Stops};
 
 use crate::command::{Command, command_of};
-use crate::put::{judge_outline, list_obligations, put_line, refuse_length, refuse_outline};
+use crate::file::Kind;
+use crate::judge::judge_outline;
+use crate::line::USAGE;
+use crate::put::{list_obligations, put_line, refuse_length, refuse_outline};
 use crate::status::{NO_COMMAND, NO_MEMORY, NOT_FETCHED};
 use pg_io::{Room, RoomFault, Sink};
 use pg_outline::Outline;
 use pg_outline_text::parse_outline;
 use std::alloc::Global;
-
-// The most bytes that a file of an outline may have.
-const LIMIT: u64 = 1_048_576;
 
 /// Does what the words say, and answers the status: fetches the files of the command from the room,
 /// one after the other, does its work, and puts its text line by line. This project's own.
@@ -39,7 +40,7 @@ pub fn run<R: Room, K: Sink>(alloc: Global, words: &[String], room: &mut R, out:
     ensures nothing_read { result ≡ 6 → K.written out.new ≡ K.written out.old }
     ensures write_fault { result ≡ 7 → Rose (K.faults out.old) (K.faults out.new) }
     ensures too_long { result ≡ 10 → Reached (R.told room.old) (files_in words.now) (λ file.
-        RoseBy (file.limit + 1) (R.taken room.old) (R.taken room.new)) }
+        RoseBy (limit file + 1) (R.taken room.old) (R.taken room.new)) }
     ensures usage { result ≡ 8 → IsNone (spec.command_of words.now)
         × (K.written out.new ≡ appended (K.written out.old) usage) }
 
@@ -60,8 +61,9 @@ pub fn run<R: Room, K: Sink>(alloc: Global, words: &[String], room: &mut R, out:
         Writes words.now (R.told room.old) result (K.written out.old) (K.written out.new)
         ⊎ (result ≡ 9) }
 
-    // What acceptance claims: in every execution of the machine, of any length and from any initial
-    // values, the assertions hold, and after each crash the crash formula.
+    // What acceptance claims: in every execution of the machine, of any length, from any well-formed
+    // state that meets the precondition, each thread's assertion holds at its current point, and each
+    // memory that a crash may leave satisfies the crash formula.
     ensures safe { result ≡ 0 → IfSome (spec.command_of words.now) (λ command. Claims command (R.told room.old)) }
 
     // What stays.
@@ -69,7 +71,7 @@ pub fn run<R: Room, K: Sink>(alloc: Global, words: &[String], room: &mut R, out:
 {
     match command_of(words) {
         Some(command) => perform(alloc, command, room, out),
-        None => put_line(out, NO_COMMAND, b"usage: check NAME | obligations NAME\n"),
+        None => put_line(out, NO_COMMAND, USAGE),
     }
 }
 
@@ -99,26 +101,28 @@ pub fn started<R: Room, K: Sink>(
 
 // Does what a command asks for.
 fn perform<R: Room, K: Sink>(alloc: Global, command: Command<'_>, room: &mut R, out: &mut K) -> u8
+    requires budget { spec.HasBudget command }
     ensures ends { Ends (Some (spec.asked command.entry)) (R.told room.old)
         (R.faults room.old) (R.faults room.new) (R.taken room.old) (R.taken room.new)
         result (K.written out.old) (K.written out.new) (K.faults out.old) (K.faults out.new) }
     ensures told { (n : List ℕ) → R.told room.new n ≡ R.told room.old n }
 {
     match command {
-        Command::Check { name } => check(alloc, name, room, out),
+        Command::Check { name, budget } => check(alloc, name, budget, room, out),
         Command::Obligations { name } => obligations(alloc, name, room, out),
     }
 }
 
-// Judges the outline in the file of this name.
-fn check<R: Room, K: Sink>(alloc: Global, name: &str, room: &mut R, out: &mut K) -> u8
-    ensures ends { Ends (Some (spec.check name.now)) (R.told room.old)
+// Judges the outline in the file of this name under a budget of nodes.
+fn check<R: Room, K: Sink>(alloc: Global, name: &str, budget: u32, room: &mut R, out: &mut K) -> u8
+    requires budget { spec.IsBudget budget }
+    ensures ends { Ends (Some (spec.check name.now budget)) (R.told room.old)
         (R.faults room.old) (R.faults room.new) (R.taken room.old) (R.taken room.new)
         result (K.written out.old) (K.written out.new) (K.faults out.old) (K.faults out.new) }
     ensures told { (n : List ℕ) → R.told room.new n ≡ R.told room.old n }
 {
     match fetched_outline(alloc, name, room, out) {
-        Ok(outline) => judge_outline(alloc, &outline, out),
+        Ok(outline) => judge_outline(alloc, &outline, budget, out),
         Err(status) => status,
     }
 }
@@ -143,16 +147,37 @@ fn fetched_outline<R: Room, K: Sink>(
     room: &mut R,
     out: &mut K,
 ) -> Result<Outline, u8>
-    ensures fetched { IfOk result (λ o. IsFetched (R.told room.old) (R.taken room.old) (R.taken room.new) (spec.outline_file name.now) o) }
+    ensures fetched { IfOk result (λ o. IsFetched (R.told room.old) (R.taken room.old) (R.taken room.new) (outline_file name.now) o) }
     ensures unwritten { OnOk result (out.new ≡ out.old) }
-    ensures stops { IfErr result (λ status. Stops (R.told room.old) (spec.outline_file name.now)
+    ensures stops { IfErr result (λ status. Stops (R.told room.old) (outline_file name.now)
+        (R.faults room.old name.now) (R.faults room.new name.now) (R.taken room.old) (R.taken room.new)
+        status (K.written out.old) (K.written out.new) (K.faults out.old) (K.faults out.new)) }
+    ensures told { (n : List ℕ) → R.told room.new n ≡ R.told room.old n }
+{
+    match fetched(alloc, name, Kind::Outline, room, out) {
+        Ok(bytes) => read_outline(alloc, bytes.as_slice(), out),
+        Err(status) => Err(status),
+    }
+}
+
+// The bytes of a file, or the status that the call ends with, where a line for a file that is too long was put.
+fn fetched<R: Room, K: Sink>(
+    alloc: Global,
+    name: &str,
+    kind: Kind,
+    room: &mut R,
+    out: &mut K,
+) -> Result<Vec<u8>, u8>
+    ensures fetched { IfOk result (λ bytes. Fetches (R.told room.old) (R.taken room.old) (R.taken room.new) (file_of name.now kind) (whole bytes.items)) }
+    ensures unwritten { OnOk result (out.new ≡ out.old) }
+    ensures stops { IfErr result (λ status. Stops (R.told room.old) (file_of name.now kind)
         (R.faults room.old name.now) (R.faults room.new name.now) (R.taken room.old) (R.taken room.new)
         status (K.written out.old) (K.written out.new) (K.faults out.old) (K.faults out.new)) }
     ensures told { (n : List ℕ) → R.told room.new n ≡ R.told room.old n }
 {
     let mut bytes = Vec::new(alloc);
-    match room.fetch(name, LIMIT, &mut bytes) {
-        Ok(()) => read_outline(alloc, bytes.as_slice(), out),
+    match room.fetch(name, kind.limit(), &mut bytes) {
+        Ok(()) => Ok(bytes),
         Err(RoomFault::Failed) => Err(NOT_FETCHED),
         Err(RoomFault::TooLong(_)) => Err(refuse_length(alloc, name, out)),
         Err(RoomFault::NoMemory) => Err(NO_MEMORY),
@@ -161,7 +186,7 @@ fn fetched_outline<R: Room, K: Sink>(
 
 // The outline that these bytes stand for, or the status that the call ends with, where the refusal was put.
 fn read_outline<K: Sink>(alloc: Global, bytes: &[u8], out: &mut K) -> Result<Outline, u8>
-    requires { length bytes.now ≤ spec.longest_outline }
+    requires { length bytes.now ≤ longest Kind.Outline }
     ensures stands { IfOk result (λ o. StandsFor bytes.now o) }
     ensures unwritten { OnOk result (out.new ≡ out.old) }
     ensures refused { IfErr result (λ status. Puts (IsRefusal bytes.now)

@@ -9,7 +9,10 @@ pub const PRINTED: u8 = 0;
 /// An obligation does not follow.
 pub const REJECTED: u8 = 1;
 
-/// The first file stands for no well-formed outline, or for one that is not judged yet.
+/// The budget was spent on an obligation.
+pub const SPENT: u8 = 2;
+
+/// The first file stands for no well-formed outline.
 pub const REFUSED: u8 = 3;
 
 /// The fetch of the file failed.

@@ -5,7 +5,7 @@ use std::alloc::{AllocError, Global};
 use std::fmt::Debug;
 use std::test::Fail;
 
-const USAGE: &[u8] = b"usage: check NAME | obligations NAME\n";
+const USAGE: &[u8] = b"usage: check NAME [BUDGET] | obligations NAME\n";
 
 // Passes where what was found is what is wanted in this case.
 fn agree<T: PartialEq + Debug + Copy>(found: T, wanted: T, case: &[u8]) -> Result<(), Fail> {
@@ -23,27 +23,34 @@ struct File {
     length: usize,
 }
 
-// In `r21` a store stands between two assertions, and in `r21b` the second one still has the old
-// value. In `r1` a flush stands between two stores, and `two` has two threads, one of which has a test. `full` is as long as a
-// file may be, and `big` is a byte longer.
-static FILES: [File; 9] = [
+const SPLIT: &[u8] =
+    b"pierogi 1; values 2; location x = 0; location y = 0; pre (N(1,x) | N(1,y)) & (N(1,x) | !N(1,y));\n\
+    thread 1 { [N(1,x) & N(1,y) | N(1,x) & !N(1,y)] }";
+
+const SWAP: &[u8] = b"pierogi 1; values 2; location x = 0; register a of 1; pre L(x,0) & F(1,x);\n\
+    thread 1 { [L(x,0) & F(1,x)] a := cas(x, 0, 1); [a = 0 & L(x,1) & N(1,x)] }";
+
+// In `store` a store stands between two assertions, and in `stale` the second one still has the old value. In `flush` a flush stands
+// between two stores, and `two` has two threads, one of which has a test. The tree of an obligation of `split` has three nodes, and
+// that of the last but one of `swap` has five. `full` is as long as a file may be, and `big` is a byte longer.
+static FILES: [File; 11] = [
     File {
-        name: "r21",
+        name: "store",
         text: b"pierogi 1; values 2; location x = 0; pre L(x,0); thread 1 { [L(x,0)] x := 1; [L(x,1)] }",
         length: 0,
     },
     File {
-        name: "r21b",
+        name: "stale",
         text: b"pierogi 1; values 2; location x = 0; pre L(x,0); thread 1 { [L(x,0)] x := 1; [L(x,0)] }",
         length: 0,
     },
     File {
-        name: "r3",
+        name: "nothing",
         text: b"pierogi 1; values 2; thread 1 { [ true ] }",
         length: 0,
     },
     File {
-        name: "r1",
+        name: "flush",
         text: b"pierogi 1; values 2; location x = 0; location y = 0;\npre !P(y,1); crash y = 1 -> x = 1;\n\
     thread 1 { [!P(y,1)] x := 1; [!P(y,1) & L(x,1) & F(1,x)] flush x;\n  [!P(x,0)] y := 1; [!P(x,0)] }\n",
         length: 0,
@@ -52,6 +59,16 @@ static FILES: [File; 9] = [
         name: "two",
         text: b"pierogi 1; values 3; location x = 2; register r of 1; auxiliary e;\npre r = 0; crash !(x = 1) | e = 0;\n\
     thread 1 { [(r = 0 | e = 1) & true] if r = 0 { [N(1,x)] r := x; } [C(1,x,0,x,2)] }\nthread 2 { [true] }\n",
+        length: 0,
+    },
+    File {
+        name: "split",
+        text: SPLIT,
+        length: 0,
+    },
+    File {
+        name: "swap",
+        text: SWAP,
         length: 0,
     },
     File {
@@ -119,7 +136,7 @@ fn status_of<R: Room, K: Sink>(
     Ok(run(alloc, words.as_slice(), room, out))
 }
 
-// The obligations of `r3`, of `two` and of `r1`.
+// The obligations of `nothing`, of `two` and of `flush`.
 const NOTHING_HELD: &[u8] = b"\
     1 fresh\n\
     goal true\n\
@@ -232,6 +249,27 @@ const ONE_FLUSH: &[u8] = b"\
     goal crash y = 1 -> x = 1\n\
     ";
 
+// The judgement of `stale`: the state before the store, and behind it, where the last value is 1.
+const STALE: &[u8] = b"\
+    rejected 4 local 1.1\n\
+    before L(x,0)\n\
+    before R(1,x,0)\n\
+    before P(x,0)\n\
+    before A(1,x,0)\n\
+    before C(1,x,0,x,0)\n\
+    after L(x,1)\n\
+    after R(1,x,1)\n\
+    after P(x,0)\n\
+    after P(x,1)\n\
+    after A(1,x,0)\n\
+    after A(1,x,1)\n\
+    after C(1,x,1,x,1)\n\
+    after N(1,x)\n\
+    after O(1,x)\n\
+    after F(1,x)\n\
+    step K(1)\n\
+    ";
+
 // Words, the numbers of the fetch and of the put that fail, from 1, and then the status and the text.
 struct Call {
     words: &'static [&'static str],
@@ -241,7 +279,7 @@ struct Call {
     text: &'static [u8],
 }
 
-static CALLS: [Call; 31] = [
+static CALLS: [Call; 52] = [
     Call {
         words: &[],
         fetch: 0,
@@ -285,21 +323,21 @@ static CALLS: [Call; 31] = [
         text: b"",
     },
     Call {
-        words: &["check", "r21"],
+        words: &["check", "store"],
         fetch: 0,
         put: 0,
         status: 0,
         text: b"accepted 5\n",
     },
     Call {
-        words: &["check", "r21b"],
+        words: &["check", "stale"],
         fetch: 0,
         put: 0,
         status: 1,
-        text: b"rejected 4 local 1.1\n",
+        text: STALE,
     },
     Call {
-        words: &["check", "r3"],
+        words: &["check", "nothing"],
         fetch: 0,
         put: 0,
         status: 0,
@@ -341,21 +379,21 @@ static CALLS: [Call; 31] = [
         text: b"",
     },
     Call {
-        words: &["check", "r21"],
+        words: &["check", "store"],
         fetch: 1,
         put: 0,
         status: 6,
         text: b"",
     },
     Call {
-        words: &["check", "r21"],
+        words: &["check", "store"],
         fetch: 2,
         put: 2,
         status: 0,
         text: b"accepted 5\n",
     },
     Call {
-        words: &["check", "r21"],
+        words: &["check", "store"],
         fetch: 0,
         put: 1,
         status: 7,
@@ -376,28 +414,28 @@ static CALLS: [Call; 31] = [
         text: USAGE,
     },
     Call {
-        words: &["obligations", "r3", "r3"],
+        words: &["obligations", "nothing", "nothing"],
         fetch: 0,
         put: 0,
         status: 8,
         text: USAGE,
     },
     Call {
-        words: &["Obligations", "r3"],
+        words: &["Obligations", "nothing"],
         fetch: 0,
         put: 0,
         status: 8,
         text: USAGE,
     },
     Call {
-        words: &["r3", "obligations"],
+        words: &["nothing", "obligations"],
         fetch: 0,
         put: 0,
         status: 8,
         text: USAGE,
     },
     Call {
-        words: &["obligations", "r3"],
+        words: &["obligations", "nothing"],
         fetch: 0,
         put: 0,
         status: 0,
@@ -425,7 +463,7 @@ static CALLS: [Call; 31] = [
         text: b"",
     },
     Call {
-        words: &["obligations", "r3"],
+        words: &["obligations", "nothing"],
         fetch: 1,
         put: 0,
         status: 6,
@@ -458,6 +496,153 @@ static CALLS: [Call; 31] = [
         put: 1,
         status: 7,
         text: b"",
+    },
+    Call {
+        words: &["check", "flush", "0"],
+        fetch: 0,
+        put: 0,
+        status: 8,
+        text: USAGE,
+    },
+    Call {
+        words: &["check", "flush", "01"],
+        fetch: 0,
+        put: 0,
+        status: 8,
+        text: USAGE,
+    },
+    Call {
+        words: &["check", "flush", "1000001"],
+        fetch: 0,
+        put: 0,
+        status: 8,
+        text: USAGE,
+    },
+    Call {
+        words: &["check", "flush", "+5"],
+        fetch: 0,
+        put: 0,
+        status: 8,
+        text: USAGE,
+    },
+    Call {
+        words: &["check", "flush", "5a"],
+        fetch: 0,
+        put: 0,
+        status: 8,
+        text: USAGE,
+    },
+    Call {
+        words: &["check", "flush", ""],
+        fetch: 0,
+        put: 0,
+        status: 8,
+        text: USAGE,
+    },
+    Call {
+        words: &["check", "flush", " 5"],
+        fetch: 0,
+        put: 0,
+        status: 8,
+        text: USAGE,
+    },
+    Call {
+        words: &["check", "flush", "18446744073709551621"],
+        fetch: 0,
+        put: 0,
+        status: 8,
+        text: USAGE,
+    },
+    Call {
+        words: &["check", "flush", "5", "5"],
+        fetch: 0,
+        put: 0,
+        status: 8,
+        text: USAGE,
+    },
+    Call {
+        words: &["check", "", "5"],
+        fetch: 0,
+        put: 0,
+        status: 8,
+        text: USAGE,
+    },
+    Call {
+        words: &["check", "flush", "1000000"],
+        fetch: 0,
+        put: 0,
+        status: 0,
+        text: b"accepted 9\n",
+    },
+    Call {
+        words: &["check", "flush", "1"],
+        fetch: 0,
+        put: 0,
+        status: 0,
+        text: b"accepted 9\n",
+    },
+    Call {
+        words: &["check", "split"],
+        fetch: 0,
+        put: 0,
+        status: 0,
+        text: b"accepted 3\n",
+    },
+    Call {
+        words: &["check", "split", "3"],
+        fetch: 0,
+        put: 0,
+        status: 0,
+        text: b"accepted 3\n",
+    },
+    Call {
+        words: &["check", "split", "2"],
+        fetch: 0,
+        put: 0,
+        status: 2,
+        text: b"spent 2 entry 1\n",
+    },
+    Call {
+        words: &["check", "swap", "5"],
+        fetch: 0,
+        put: 0,
+        status: 0,
+        text: b"accepted 5\n",
+    },
+    Call {
+        words: &["check", "swap", "4"],
+        fetch: 0,
+        put: 0,
+        status: 2,
+        text: b"spent 4 local 1.1\n",
+    },
+    Call {
+        words: &["check", "split", "2"],
+        fetch: 0,
+        put: 1,
+        status: 7,
+        text: b"",
+    },
+    Call {
+        words: &["check", "stale"],
+        fetch: 0,
+        put: 2,
+        status: 7,
+        text: b"rejected 4 local 1.1\n",
+    },
+    Call {
+        words: &["check", "gone", "5"],
+        fetch: 0,
+        put: 0,
+        status: 6,
+        text: b"",
+    },
+    Call {
+        words: &["obligations", "nothing", "5"],
+        fetch: 0,
+        put: 0,
+        status: 8,
+        text: USAGE,
     },
 ];
 
@@ -493,9 +678,9 @@ fn first_lines(text: &[u8], lines: u32) -> &[u8] {
     text.get(..end).unwrap_or(text)
 }
 
-// Passes where the obligations of `r1` are put up to a line that fails.
+// Passes where the obligations of `flush` are put up to a line that fails.
 fn is_cut(alloc: Global, failing: u32, status: u8) -> Result<(), Fail> {
-    let words = &["obligations", "r1"];
+    let words = &["obligations", "flush"];
     let mut room = MemoryRoom::make(files(alloc, words)?, Vec::new(alloc));
     let mut out = MemorySink::make(alloc, vec![in alloc; failing]?);
     let found = status_of(alloc, words, &mut room, &mut out)?;
@@ -535,21 +720,202 @@ fn is_refused(alloc: Global, bytes: &[u8], line: &[u8]) -> Result<(), Fail> {
     )
 }
 
-// Passes where a file of these bytes is refused, and it is told whether it was read whole.
+// Passes where a file of these bytes stands for an outline, or where it does not.
 fn is_read(alloc: Global, bytes: &[u8], wanted: bool) -> Result<(), Fail> {
     let mut out = QuietSink::make(alloc);
-    let status = checked(alloc, bytes, &mut out)?;
-    agree((status, is_no_fault(out.bytes())), (3, wanted), bytes)
+    let mut room = room_of(alloc, bytes)?;
+    let status = status_of(alloc, &["obligations", "o"], &mut room, &mut out)?;
+    agree(status, if wanted { 0 } else { 3 }, bytes)
 }
 
-// The answer is not a fault of the file.
-fn is_no_fault(text: &[u8]) -> bool {
-    !text.starts_with(b"refused ") || text == b"refused not yet\n".as_slice()
+// An outline, the words behind its name, the status, the first line, and lines that are among the others.
+struct Verdict {
+    text: &'static [u8],
+    words: &'static [&'static str],
+    status: u8,
+    first: &'static [u8],
+    among: &'static [&'static str],
+}
+
+static VERDICTS: [Verdict; 18] = [
+    // A flush between two stores, and none.
+    Verdict {
+        text: b"pierogi 1; values 2; location x = 0; location y = 0; pre !P(y,1); crash y = 1 -> x = 1; thread 1 { [!P(y,1)] x := 1; [!P(y,1) & L(x,1) & F(1,x)] flush x; [!P(x,0)] y := 1; [!P(x,0)] }",
+        words: &[],
+        status: 0,
+        first: b"accepted 9\n",
+        among: &[],
+    },
+    Verdict {
+        text: b"pierogi 1; values 2; location x = 0; location y = 0; pre !P(y,1); crash y = 1 -> x = 1; thread 1 { [!P(y,1)] x := 1; [!P(y,1) & L(x,1) & F(1,x)] y := 1; [true] }",
+        words: &[],
+        status: 1,
+        first: b"rejected 7 crash 1.2\n",
+        among: &["\nafter P(x,0)\n", "\nafter P(y,1)\n"],
+    },
+    // A deferred flush with a fence, and without one.
+    Verdict {
+        text: b"pierogi 1; values 2; location x = 0; location y = 0; pre !P(y,1); crash y = 1 -> x = 1; thread 1 { [!P(y,1)] x := 1; [!P(y,1) & L(x,1) & O(1,x)] flushopt x; [!P(y,1) & !A(1,x,0)] sfence; [!P(x,0)] y := 1; [true] }",
+        words: &[],
+        status: 0,
+        first: b"accepted 11\n",
+        among: &[],
+    },
+    Verdict {
+        text: b"pierogi 1; values 2; location x = 0; location y = 0; pre !P(y,1); crash y = 1 -> x = 1; thread 1 { [!P(y,1)] x := 1; [!P(y,1) & L(x,1) & O(1,x)] flushopt x; [!P(y,1) & !A(1,x,0)] y := 1; [true] }",
+        words: &[],
+        status: 1,
+        first: b"rejected 9 crash 1.3\n",
+        among: &[],
+    },
+    Verdict {
+        text: b"pierogi 1; values 2; location x = 0; location y = 0; pre !P(y,1); crash y = 1 -> x = 1; thread 1 { [!P(y,1)] x := 1; [!P(y,1) & L(x,1) & O(1,x)] flushopt x; [!P(x,0)] y := 1; [true] }",
+        words: &[],
+        status: 1,
+        first: b"rejected 6 local 1.2\n",
+        among: &[],
+    },
+    // A message that is passed, and one that is flushed and then passed on.
+    Verdict {
+        text: b"pierogi 1; values 2; location x = 0; location y = 0; register a of 2; register b of 2; pre !R(2,y,1); thread 1 { [true] x := 1; [L(x,1)] y := 1; [true] } thread 2 { [!C(2,y,1,x,0)] a := y; [a = 1 -> !R(2,x,0)] b := x; [a = 1 -> b = 1] }",
+        words: &[],
+        status: 0,
+        first: b"accepted 24\n",
+        among: &[],
+    },
+    Verdict {
+        text: b"pierogi 1; values 2; location x = 0; location y = 0; register a of 2; pre !R(2,x,1) & !P(y,1); crash y = 1 -> x = 1; thread 1 { [true] x := 1; [true] } thread 2 { [!C(2,x,1,x,0) & !P(y,1)] a := x; [(a = 1 -> !R(2,x,0)) & !P(y,1)] flush x; [(a = 1 -> !P(x,0)) & !P(y,1)] y := a; [true] }",
+        words: &[],
+        status: 0,
+        first: b"accepted 22\n",
+        among: &[],
+    },
+    Verdict {
+        text: b"pierogi 1; values 2; location x = 0; location y = 0; register a of 2; pre !R(2,x,1) & !P(y,1); crash y = 1 -> x = 1; thread 1 { [true] x := 1; [true] } thread 2 { [!P(y,1)] a := x; [(a = 1 -> !R(2,x,0)) & !P(y,1)] flush x; [(a = 1 -> !P(x,0)) & !P(y,1)] y := a; [true] }",
+        words: &[],
+        status: 1,
+        first: b"rejected 11 local 2.1\n",
+        among: &[],
+    },
+    // Both threads may read the old value of the other one's location.
+    Verdict {
+        text: b"pierogi 1; values 2; location x = 0; location y = 0; register r of 1; register a of 1; register s of 2; register b of 2; auxiliary e; thread 1 { [true] x := 1; [true] r := x; [true] a := y; [e = 1 -> a = 1 | b = 1] } thread 2 { [true] y := 1; [true] s := y; [true] b := x < e := 1 >; [true] }",
+        words: &[],
+        status: 1,
+        first: b"rejected 17 local 1.3\n",
+        among: &["\nafter a = 0\n", "\nafter b = 0\n", "\nafter e = 1\n"],
+    },
+    // A loop, an auxiliary, a test.
+    Verdict {
+        text: b"pierogi 1; values 2; register a of 1; thread 1 { [true] while a = 0 { } [!a = 0] }",
+        words: &[],
+        status: 0,
+        first: b"accepted 7\n",
+        among: &[],
+    },
+    Verdict {
+        text: b"pierogi 1; values 2; location x = 0; auxiliary e; thread 1 { [true] x := 1 < e := 1 >; [e = 1] }",
+        words: &[],
+        status: 0,
+        first: b"accepted 5\n",
+        among: &[],
+    },
+    Verdict {
+        text: b"pierogi 1; values 2; location x = 0; location y = 0; location z = 0; register a of 2; pre !R(2,y,1) & !P(z,1); crash z = 1 -> x = 1; thread 1 { [true] x := 1; [L(x,1)] y := 1; [true] } thread 2 { [!C(2,y,1,x,0) & !P(z,1)] a := y; [(a = 1 -> !R(2,x,0)) & !P(z,1)] if a = 1 { [!R(2,x,0) & !P(z,1)] flush x; [!P(x,0)] z := 1; } [true] }",
+        words: &[],
+        status: 0,
+        first: b"accepted 43\n",
+        among: &[],
+    },
+    // Nothing is held, and nothing is there.
+    Verdict {
+        text: b"pierogi 1; values 2; thread 1 { [ true ] }",
+        words: &[],
+        status: 0,
+        first: b"accepted 3\n",
+        among: &[],
+    },
+    Verdict {
+        text: b"pierogi 1; values 4; location a = 0; location b = 0; location c = 0; location d = 0; location e = 0; location f = 0; thread 1 { [true] } thread 2 { [true] } thread 3 { [true] } thread 4 { [true] }",
+        words: &[],
+        status: 0,
+        first: b"accepted 6\n",
+        among: &[],
+    },
+    // Trees of three and of five nodes.
+    Verdict {
+        text: SPLIT,
+        words: &["3"],
+        status: 0,
+        first: b"accepted 3\n",
+        among: &[],
+    },
+    Verdict {
+        text: SPLIT,
+        words: &["2"],
+        status: 2,
+        first: b"spent 2 entry 1\n",
+        among: &[],
+    },
+    Verdict {
+        text: SWAP,
+        words: &["5"],
+        status: 0,
+        first: b"accepted 5\n",
+        among: &[],
+    },
+    Verdict {
+        text: SWAP,
+        words: &["4"],
+        status: 2,
+        first: b"spent 4 local 1.1\n",
+        among: &[],
+    },
+];
+
+// The words `check o`, with those behind them.
+fn words_of(alloc: Global, case: &'static Verdict) -> Result<Vec<String>, AllocError> {
+    let mut list = word_list(alloc, &["check", "o"])?;
+    for word in case.words {
+        list.push(String::from_str(alloc, *word)?)?;
+    }
+    Ok(list)
+}
+
+// Passes where an outline is judged so.
+fn is_judged(alloc: Global, case: &'static Verdict) -> Result<(), Fail> {
+    let mut room = room_of(alloc, case.text)?;
+    let mut out = QuietSink::make(alloc);
+    let words = words_of(alloc, case)?;
+    let status = run(alloc, words.as_slice(), &mut room, &mut out);
+    agree(
+        (status, first_lines(out.bytes(), 1)),
+        (case.status, case.first),
+        case.text,
+    )?;
+    has_lines(out.bytes(), case.among)
+}
+
+// Passes where these lines are among those of a text.
+fn has_lines(text: &[u8], lines: &'static [&'static str]) -> Result<(), Fail> {
+    let text = std::str::from_utf8(text).unwrap_or("");
+    for line in lines {
+        agree(text.contains(*line), true, line.as_bytes())?;
+    }
+    Ok(())
+}
+
+#[test]
+fn outlines_are_judged(rt: HostRuntime) -> Result<(), Fail> {
+    for case in &VERDICTS {
+        is_judged(rt.alloc(), case)?;
+    }
+    Ok(())
 }
 
 // A file and the line that it is refused with. Each has a fault of its text, then of its program,
-// then of its formulas, or has not the first form.
-static REFUSED: [(&[u8], &[u8]); 27] = [
+// then of its formulas.
+static REFUSED: [(&[u8], &[u8]); 25] = [
     (b"", b"refused 0 unexpected"),
     (
         b"pierogi 9; values 2; thread 1 { [ true ] }",
@@ -640,14 +1006,6 @@ static REFUSED: [(&[u8], &[u8]); 27] = [
     (
         b"pierogi 1; values 2; location a = 0; location b = 0; location c = 0; location d = 0; crash a = 0 | b = 0 | c = 0 | d = 0; thread 1 { [true] }",
         b"refused crash locations 4",
-    ),
-    (
-        b"pierogi 1; values 4; location a = 0; location b = 0; location c = 0; location d = 0; location e = 0; location f = 0; thread 1 { [true] } thread 2 { [true] } thread 3 { [true] } thread 4 { [true] } ",
-        b"refused not yet",
-    ),
-    (
-        b"pierogi 1; values 2; location x = 0; auxiliary e; thread 1 { [true] x := 1 < e := 1 >; [e = 1] }",
-        b"refused not yet",
     ),
 ];
 
@@ -835,10 +1193,8 @@ fn keeps_limit(alloc: Global, limit: &'static Limit) -> Result<(), Fail> {
 }
 
 fn is_short_enough(alloc: Global, limit: &'static Limit) -> Result<(), Fail> {
-    let mut out = QuietSink::make(alloc);
     let text = repeated(alloc, limit, limit.most)?;
-    checked(alloc, &text, &mut out)?;
-    agree(is_no_fault(out.bytes()), true, limit.line)
+    is_read(alloc, &text, true)
 }
 
 #[test]

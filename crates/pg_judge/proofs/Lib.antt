@@ -1,13 +1,3 @@
-pub mod Follow
-pub mod Outlines
-pub mod Stores
-pub mod Valuations
-pub mod LastValues
-pub mod Safe
-pub mod Built
-pub mod Conjunctions
-pub mod Found
-pub mod Trues
 pub mod Models
 pub mod Unique
 pub mod Truths

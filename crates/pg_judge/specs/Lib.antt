@@ -1,9 +1,4 @@
 pub mod Limits
-pub mod Judgement
-pub mod Obligation
-pub mod Path
-pub mod Form
-pub mod Reading
 pub mod Outcome
 pub mod Laws
 pub mod Bench

@@ -16,6 +16,9 @@ use pg_obligations::Obligations;
 use pg_outline::Outline;
 use std::alloc::{AllocError, Global};
 
+/// The greatest budget of nodes.
+pub const MAX_BUDGET: u32 = 1_000_000;
+
 /// Where the obligations end that are closed: behind the last one, or at one that has a model, with the number of its atoms, or at
 /// one that spends the budget.
 #[derive(Clone, Copy)]

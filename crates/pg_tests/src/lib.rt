@@ -1,4 +1,4 @@
-//! Tests of the layers from rooms and tokens up to the judge of a path, in one crate, so that each layer below is proved
+//! Tests of the layers from rooms and tokens up to the rules and the decider, in one crate, so that each layer below is proved
 //! once and not once more for its tests.
 //!
 //! A test is a table: a text, and what the layer answers, worked out by hand. Programs, assertions and outlines are written as
@@ -26,8 +26,6 @@ mod names;
 mod numbering;
 #[cfg(test)]
 mod outlines;
-#[cfg(test)]
-mod paths;
 #[cfg(test)]
 mod persist;
 #[cfg(test)]

@@ -1,25 +1,14 @@
 -- The text of the obligations is put whole, or a prefix of it.
-use Rattle.std.proofs.Common.{inl, inr, refl}
+use Rattle.std.proofs.Common.{◌≡◌}
 use Rattle.pg_report.specs.Obligations.{obligations_text}
+use Rattle.pg_app.specs.Answer.{IsListed}
+use Rattle.pg_app.specs.Put.{status_after}
+use Rattle.pg_app.proofs.Puts.{puts_map, report_puts}
 use Rattle.pg_app.proofs.put.list_obligations.Goals as goal
 
-pub returns-in-Ok : goal.returns-in-Ok
-returns-in-Ok g c =
-    inl (record { text = obligations_text c.args.outline.now; due = record { status_is = refl; text_is = refl }; written = rw c.in-Ok.is at c.report_obligations.ensures.lines })
-
-pub returns-in-Err-Write : goal.returns-in-Err-Write
-returns-in-Err-Write g c =
-    let said = rw (c.in-Err-Write.is, c.in-Err-Write.field-0-is) at c.report_obligations.ensures.lines in
-    inr (inl (record {
-      status_is = refl;
-      rose = said.1;
-      part = record { status = 0; text = obligations_text c.args.outline.now; due = record { status_is = refl; text_is = refl }; written = said.0 };
-    }))
-
-pub returns-in-Err-NoMemory : goal.returns-in-Err-NoMemory
-returns-in-Err-NoMemory g c =
-    let said = rw (c.in-Err-NoMemory.is, c.in-Err-NoMemory.field-0-is) at c.report_obligations.ensures.lines in
-    inr (inr (record {
-      status_is = refl;
-      part = inr (record { status = 0; text = obligations_text c.args.outline.now; due = record { status_is = refl; text_is = refl }; written = said });
-    }))
+pub returns : goal.returns
+returns g c =
+    let text = obligations_text c.args.outline.now in
+    rw c.reported.ensures
+    (puts_map (λ due line. (due ≡ 0) × (line ≡ text)) (IsListed c.args.outline.now) (λ s line same. record { status_is = same.0; text_is = same.1 })
+    (status_after c.report_obligations.result 0) _ _ _ _ (report_puts text c.report_obligations.result 0 _ _ _ _ c.report_obligations.ensures.lines))

@@ -1,0 +1,22 @@
+//! What the files of commands are of. What is promised is the most bytes that each may have.
+
+ghost use Rattle.std.specs.Prelude.{◌≡◌};
+ghost use Rattle.pg_app.specs.File.{longest};
+
+/// What a file is of.
+#[derive(Clone, Copy, Debug, PartialEq, Eq)]
+pub enum Kind {
+    /// The text of an outline.
+    Outline,
+}
+
+impl Kind {
+    /// The most bytes that a file of this kind may have.
+    pub fn limit(self) -> u64
+        ensures { result ≡ longest self }
+    {
+        match self {
+            Kind::Outline => 1_048_576,
+        }
+    }
+}
