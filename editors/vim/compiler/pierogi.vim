@@ -1,0 +1,16 @@
+" `:make` checks the outline of this window, and goes to the lines that the answer speaks of. It calls the script
+" ./pierogi of the repository that this file stands in, or g:pierogi where that is set.
+if exists('current_compiler')
+  finish
+endif
+let current_compiler = 'pierogi'
+
+let s:script = get(g:, 'pierogi', expand('<sfile>:p:h:h:h:h') . '/pierogi')
+let &l:makeprg = 'PIEROGI_EXPLAIN=1 ' . shellescape(s:script) . ' check %:S'
+
+setlocal errorformat=%E%f:%l:%c:\ error:\ %m
+setlocal errorformat+=%E%f:%l:\ error:\ %m
+setlocal errorformat+=%E%f:\ error:\ %m
+setlocal errorformat+=%I%f:%l:\ note:\ %m
+setlocal errorformat+=%E%f:%l:\ %m
+setlocal errorformat+=%-G%.%#

@@ -1,0 +1,11 @@
+" How outlines of Pierogi are edited.
+if exists('b:did_ftplugin')
+  finish
+endif
+let b:did_ftplugin = 1
+
+setlocal commentstring=#\ %s comments=:#
+setlocal expandtab shiftwidth=2 softtabstop=2
+compiler pierogi
+
+let b:undo_ftplugin = 'setlocal commentstring< comments< expandtab< shiftwidth< softtabstop< makeprg< errorformat<'
