@@ -1,2 +1,1 @@
 mod Atoms
-mod FirstStep

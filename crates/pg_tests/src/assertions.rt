@@ -1,7 +1,7 @@
 //! Formulas that are read from the start of a text, and their first faults.
 
-use crate::texts::{Pieces, agree, lexer_of, on, repeated};
 use pg_assertion_text::{parse_crash, parse_formula};
+use pg_cases::{Pieces, agree, lexer_of, on, repeated};
 use pg_lex::{Sign, TextFault, TextKind, TokenKind};
 use pg_program::Names;
 use std::alloc::Global;

@@ -1,6 +1,6 @@
 //! Bodies of threads that are read from the start of a text, and their first faults.
 
-use crate::texts::{Pieces, agree, lexer_of, on, repeated};
+use pg_cases::{Pieces, agree, lexer_of, on, repeated};
 use pg_lex::{TextFault, TextKind};
 use pg_program::Names;
 use pg_program_text::{ThreadText, parse_thread};

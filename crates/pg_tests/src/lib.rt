@@ -1,5 +1,5 @@
-//! Tests of the layers from rooms and tokens up to the rules and the decider, in one crate, so that each layer below is proved
-//! once and not once more for its tests.
+//! Tests of the layers from rooms and tokens up to outlines, states and their crashes, in one crate, so that each layer below is proved
+//! once and not once more for its tests. Those of regions, clauses and the decider stand in `pg_logic_tests`.
 //!
 //! A test is a table: a text, and what the layer answers, worked out by hand. Programs, assertions and outlines are written as
 //! texts of outlines, and read. What a contract says for all inputs is not tested again; the tests show that the contracts mean
@@ -7,15 +7,9 @@
 #![tactic(auto)]
 
 #[cfg(test)]
-mod access;
-#[cfg(test)]
 mod assertions;
 #[cfg(test)]
-mod axioms;
-#[cfg(test)]
 mod bodies;
-#[cfg(test)]
-mod decider;
 #[cfg(test)]
 mod lines;
 #[cfg(test)]
@@ -27,18 +21,12 @@ mod numbering;
 #[cfg(test)]
 mod outlines;
 #[cfg(test)]
-mod persist;
-#[cfg(test)]
 mod programs;
-#[cfg(test)]
-mod regions;
 #[cfg(test)]
 mod rooms;
 #[cfg(test)]
 mod spellings;
 #[cfg(test)]
 mod steps;
-#[cfg(test)]
-mod texts;
 #[cfg(test)]
 mod tokens;

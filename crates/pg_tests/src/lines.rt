@@ -1,13 +1,9 @@
 //! Two locations on one cache line: the atoms that hold, and what crashes leave of them. A line persists as a whole.
 
-ghost use Rattle.std.specs.Prelude.{IfOk};
-ghost use Rattle.pg_program.specs.Program.{IsThread};
-
 use crate::meanings::{crashed, hold_behind};
 use crate::steps::Line;
-use crate::texts::{agree, lexer_of};
-use pg_program::{NameKind, Names, Program, Stmt};
-use pg_program_text::{ThreadText, parse_thread};
+use pg_cases::{agree, thread};
+use pg_program::{NameKind, Names, Program};
 use pg_views::CrashFault;
 use std::alloc::Global;
 use std::test::Fail;
@@ -54,15 +50,6 @@ N(1,y) N(2,x) O(1,x) O(1,y) O(2,x) F(1,x) F(1,y) F(2,x)";
 
 /// How many of the steps are taken, and the atoms that hold then.
 static STATES: [(usize, &str); 3] = [(2, WRITTEN), (3, FLUSHED), (4, COMMITTED)];
-
-/// The statements of a thread over these names.
-pub fn thread(alloc: Global, names: &Names, text: &[u8]) -> Result<Vec<Stmt>, Fail>
-    ensures { IfOk result (λ ss. IsThread names.now ss.items) }
-{
-    let mut lexer = lexer_of(text)?;
-    let ThreadText { stmts, .. } = parse_thread(alloc, &mut lexer, names)?;
-    Ok(stmts)
-}
 
 /// The program of these threads, where x and y stand on one line.
 fn sharing(alloc: Global) -> Result<Program, Fail> {

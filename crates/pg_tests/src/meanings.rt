@@ -8,9 +8,9 @@ ghost use Rattle.pg_machine.specs.Step.{HasThread};
 ghost use Rattle.pg_views.specs.Formula.{IsCrashAtom};
 
 use crate::steps::{Line, behind};
-use crate::texts::{agree, on};
 use pg_assertion::{CrashAtom, Formula, Layout, StepAtom};
 use pg_assertion_text::print_formula;
+use pg_cases::{agree, on};
 use pg_machine::{Event, State};
 use pg_program::Program;
 use pg_views::{CrashFault, Nvm, crash, holds, holds_crash, holds_step_atom};

@@ -3,7 +3,7 @@
 ghost use Rattle.std.specs.Prelude.{◌≡◌, true};
 ghost use Rattle.pg_program.specs.NameTable.{MayJoin};
 
-use crate::texts::{agree, on};
+use pg_cases::{agree, on};
 use pg_program::{DeclareFault, NameKind, NameRef, Names};
 use std::test::Fail;
 

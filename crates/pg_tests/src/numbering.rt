@@ -3,9 +3,9 @@
 ghost use Rattle.std.specs.Prelude.{◌≡◌};
 
 use crate::meanings::layout_of;
-use crate::texts::{agree, on};
 use pg_assertion::{Formula, Numbering, Side};
 use pg_assertion_text::print_formula;
+use pg_cases::{agree, on};
 use pg_program::Program;
 use std::alloc::Global;
 use std::test::Fail;

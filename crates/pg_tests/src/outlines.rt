@@ -1,8 +1,8 @@
 //! Texts of outlines, the first fault of each that is none, and what an outline gives back.
 
 use crate::programs::shown;
-use crate::texts::{Pieces, agree, between, fault_of, on, repeated};
 use pg_assertion::{Formula, ViewAtom};
+use pg_cases::{Pieces, agree, between, fault_of, on, repeated};
 use pg_outline::{Outline, erase};
 use pg_program::NameRef;
 use std::alloc::{AllocError, Global};

@@ -1,7 +1,7 @@
 //! Programs that are built: their statements and steps, and the values of their expressions.
 
 use crate::steps::{Line, behind};
-use crate::texts::{agree, between, on};
+use pg_cases::{agree, between, on};
 use pg_program::{Act, Branch, PointId, Program, Stmt};
 use std::alloc::{AllocError, Global};
 use std::test::Fail;

@@ -1,6 +1,6 @@
 //! Parts of outlines in any spelling, and their canonical text.
 
-use crate::texts::{agree, between, on};
+use pg_cases::{agree, between, on};
 use pg_outline::Outline;
 use pg_outline_text::{VERSION, print_outline};
 use std::alloc::Global;

@@ -3,7 +3,7 @@
 ghost use Rattle.std.specs.Prelude.{IfOk};
 ghost use Rattle.pg_machine.specs.State.{IsWellFormed};
 
-use crate::texts::{agree, on};
+use pg_cases::{agree, on};
 use pg_machine::{Event, MAX_MESSAGES, State, StepFault};
 use pg_program::Program;
 use std::alloc::Global;

@@ -1,6 +1,6 @@
 //! Texts and their tokens.
 
-use crate::texts::{agree, lexer_of};
+use pg_cases::{agree, lexer_of};
 use pg_lex::{Lexer, Sign, TextFault, TextKind, Token, TokenKind};
 use std::test::Fail;
 

@@ -1,6 +1,0 @@
-use Rattle.std.proofs.Common.{◌≤◌, ℕ, All}
-use Rattle.pg_region.specs.Literal.{Literal}
-use Rattle.pg_tests.proofs.decider.chain.Given as goal
-
-abbrev pub invariant-loop-k : goal.invariant-loop-k
-invariant-loop-k l = All (All (λ (x : Literal). x.atom ≤ l.atoms)) l.region.clauses
