@@ -4,7 +4,7 @@ use thiserror::Error;
 
 /// The faults are looked for line by line and, within a leaf, clause by clause from left to right, and the first is given. A line
 /// is told by its number in the file. This project's own, with the format of derivations.
-#[derive(Clone, Copy, Debug, Error)]
+#[derive(Clone, Copy, Debug, PartialEq, Eq, Error)]
 pub enum TreeFault {
     /// The trail was made for so many atoms, and the obligation has more.
     #[error("the trail has room for {0} atoms")]
