@@ -13,7 +13,8 @@ use std::alloc::Global;
 use std::test::Fail;
 
 /// A flush between two stores, with nine obligations, of which the fourth on are two each of the three steps.
-const FLUSHED: &[u8] = b"pierogi 1; values 2; location x = 0; location y = 0; pre !P(y,1); crash y = 1 -> x = 1; thread 1 { [!P(y,1)] x := 1; [!P(y,1) & L(x,1) & F(1,x)] flush x; [!P(x,0)] y := 1; [!P(x,0)] }";
+const FLUSHED: &[u8] =
+    b"pierogi 1; values 2; location x = 0; location y = 0; pre !P(y,1); crash y = 1 -> x = 1; thread 1 { [!P(y,1)] x := 1; [!P(y,1) & L(x,1) & F(1,x)] flush x; [!P(x,0)] y := 1; [!P(x,0)] }";
 
 /// The load of an obligation: how many clauses and atoms it has, and how many clauses were pushed on the region by then.
 struct Load {
@@ -26,15 +27,60 @@ struct Load {
 /// The axioms of a side have 108 clauses, which the first load pushes for both, the rules of a store 89, and those of the flush 82. So the first pushes
 /// 216 + 82 + 115, and those behind it 2, 62, 89 + 109, 7, 56, 55, 89 + 62 and 109.
 static LOADS: [Load; 9] = [
-    Load { i: 7, clauses: 413, atoms: 130, pushes: 413 },
-    Load { i: 2, clauses: 110, atoms: 82, pushes: 415 },
-    Load { i: 6, clauses: 360, atoms: 107, pushes: 477 },
-    Load { i: 9, clauses: 414, atoms: 128, pushes: 675 },
-    Load { i: 1, clauses: 115, atoms: 82, pushes: 682 },
-    Load { i: 8, clauses: 361, atoms: 105, pushes: 738 },
-    Load { i: 3, clauses: 163, atoms: 105, pushes: 793 },
-    Load { i: 4, clauses: 367, atoms: 107, pushes: 944 },
-    Load { i: 5, clauses: 414, atoms: 128, pushes: 1053 },
+    Load {
+        i: 7,
+        clauses: 413,
+        atoms: 130,
+        pushes: 413,
+    },
+    Load {
+        i: 2,
+        clauses: 110,
+        atoms: 82,
+        pushes: 415,
+    },
+    Load {
+        i: 6,
+        clauses: 360,
+        atoms: 107,
+        pushes: 477,
+    },
+    Load {
+        i: 9,
+        clauses: 414,
+        atoms: 128,
+        pushes: 675,
+    },
+    Load {
+        i: 1,
+        clauses: 115,
+        atoms: 82,
+        pushes: 682,
+    },
+    Load {
+        i: 8,
+        clauses: 361,
+        atoms: 105,
+        pushes: 738,
+    },
+    Load {
+        i: 3,
+        clauses: 163,
+        atoms: 105,
+        pushes: 793,
+    },
+    Load {
+        i: 4,
+        clauses: 367,
+        atoms: 107,
+        pushes: 944,
+    },
+    Load {
+        i: 5,
+        clauses: 414,
+        atoms: 128,
+        pushes: 1053,
+    },
 ];
 
 /// Passes where an obligation is loaded as the case says.
@@ -49,7 +95,11 @@ fn load(o: &Outline, loader: &mut Loader<'_>, region: &mut Region, case: &Load) 
     }
     let loaded = loader.load(case.i, region)?;
     let clauses = ClauseReader::of(region, loaded).count();
-    agree((clauses, loaded.atoms, region.pushes()), (case.clauses, case.atoms, case.pushes), case.i)
+    agree(
+        (clauses, loaded.atoms, region.pushes()),
+        (case.clauses, case.atoms, case.pushes),
+        case.i,
+    )
 }
 
 /// Passes where what was found of an obligation is what is wanted.

@@ -1,10 +1,10 @@
 //! Rooms and sinks, in memory and real ones, called through the bounds of their traits.
 
+use pg_cases::agree;
 use pg_io::{
     FileRoom, MemoryRoom, MemorySink, QuietRoom, QuietSink, Room, RoomFault, Sink, SinkFault,
     StdSink, read_within,
 };
-use pg_cases::agree;
 use std::alloc::{AllocError, Global};
 use std::fmt::Display;
 use std::io::{self, ErrorKind, Read};
