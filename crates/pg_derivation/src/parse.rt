@@ -1,0 +1,218 @@
+//! Reading a derivation.
+
+ghost use Rattle.std.specs.Prelude.{◌≡◌, ◌<◌, ◌≤◌, ◌+◌, ◌^◌, ℕ, List, [], ◌++◌, length, IfOk, OnOk, MatchResult};
+ghost use Rattle.std.specs.List.{AllByRecursion};
+ghost use Rattle.pg_region.specs.Pieces.{pieces};
+ghost use Rattle.pg_document.specs.declared.fault.DocFault.TheVariants.{NoMemory};
+ghost use Rattle.pg_derivation.specs.Derivation.{Node, IsNumber, AreTrees, trees_of, numbered};
+ghost use Rattle.pg_derivation.specs.Kept.{node_in, nodes_in, IsWithin, IsKept, Rise};
+ghost use Rattle.pg_derivation.specs.Place.{cursor, Tells};
+ghost use Rattle.pg_derivation.specs.Text.{text_of};
+ghost use Rattle.pg_derivation.specs.Fault as spec;
+ghost use Rattle.pg_derivation.specs.Read.{Reads, Adds, ReadsTrees};
+
+use crate::derivation::Derivation;
+use crate::kept::Kept;
+use crate::place::Place;
+use crate::words::{advance, fault, has_more, keyword, literal, newline, number, says, space};
+use pg_document::DocFault;
+use std::alloc::Global;
+
+/// The derivation that a text says, or its first fault: a word that can't stand where it is, a missing one, or the text's end where
+/// it comes early; or another version. The text has fewer than 2^32 bytes.
+pub fn parse_derivation(alloc: Global, text: &[u8]) -> Result<Derivation, DocFault>
+    requires { length text.now < 2 ^ 32 }
+    // What is read is spelled so, and its lines are numbered as they stand in the text.
+    ensures found { IfOk result (λ d. AreTrees (trees_of d) × (text.now ≡ text_of (trees_of d)) × (d ≡ numbered (trees_of d))) }
+    // What is spelled so is read, unless memory runs out.
+    ensures only { (trees : List (List Node)) → AreTrees trees → text.now ≡ text_of trees → MatchResult result (λ d. d ≡ numbered trees) (λ e. e ≡ NoMemory) }
+    // Which fault it is.
+    ensures exact { ReadsTrees result (spec.derivation_of text.now) }
+{
+    read(alloc, text)
+}
+
+/// The derivation that a text says, or its first fault.
+#[tactic(auto, unfolding(crate::specs::Fault::derivation_of))]
+fn read(alloc: Global, text: &[u8]) -> Result<Derivation, DocFault>
+    requires { length text.now < 2 ^ 32 }
+    ensures { ReadsTrees result (spec.derivation_of text.now) }
+{
+    let from = header(&Place { at: 0, rest: text })?;
+    let mut numbers = Vec::new(alloc);
+    let mut nodes = Vec::new(alloc);
+    let mut ends = Vec::new(alloc);
+    let behind = trees(&from, &mut numbers, &mut nodes, &mut ends)?;
+    closing(&behind)?;
+    Ok(Derivation::of(numbers, nodes, ends))
+}
+
+/// The place behind the first line.
+#[tactic(auto, unfolding(crate::specs::Fault::header))]
+fn header<'a>(place: &Place<'a>) -> Result<Place<'a>, DocFault>
+    ensures said { Tells cursor result (spec.header (cursor place.now)) }
+    ensures moves { IfOk result (λ p. place.now.at < p.at) }
+{
+    let from = space(&keyword(place, b"derivation")?)?;
+    let (version, behind) = number(&from)?;
+    if version == 1 {
+        newline(&behind)
+    } else {
+        Err(DocFault::Version(version))
+    }
+}
+
+/// The place behind the line of the obligation with this number.
+#[tactic(auto, unfolding(crate::specs::Fault::obligation))]
+fn obligation<'a>(place: &Place<'a>, i: u32) -> Result<Place<'a>, DocFault>
+    ensures said { Tells cursor result (spec.obligation i (cursor place.now)) }
+    ensures moves { IfOk result (λ p. place.now.at < p.at) }
+    ensures fits { OnOk result (i < 2 ^ 31) }
+{
+    let from = space(&keyword(place, b"obligation")?)?;
+    let (given, behind) = number(&from)?;
+    if given == i {
+        newline(&behind)
+    } else {
+        Err(fault(&from))
+    }
+}
+
+/// The place behind the last line, which is the text's end.
+#[tactic(auto, unfolding(crate::specs::Fault::closing))]
+fn closing<'a>(place: &Place<'a>) -> Result<Place<'a>, DocFault>
+    ensures said { Tells cursor result (spec.closing (cursor place.now)) }
+    ensures moves { IfOk result (λ p. place.now.at < p.at) }
+{
+    let behind = newline(&keyword(place, b"end")?)?;
+    if behind.rest.is_empty() {
+        Ok(behind)
+    } else {
+        Err(fault(&behind))
+    }
+}
+
+/// The place behind the numbers of a line, which are appended.
+fn numbers<'a>(from: &Place<'a>, into: &mut Vec<u32>) -> Result<Place<'a>, DocFault>
+    ensures said { Adds into.old.items into.new.items result (spec.numbers (length from.now.rest.now) (cursor from.now)) }
+    ensures moves { IfOk result (λ p. length into.new.items + from.now.at < length into.old.items + p.at) }
+    ensures some { OnOk result (length into.old.items < length into.new.items) }
+    ensures fits { OnOk result (AllByRecursion IsNumber into.old.items → AllByRecursion IsNumber into.new.items) }
+{
+    let mut place = *from;
+    'words: for _ in 0..from.rest.len() {
+        let (first, behind) = number(&place)?;
+        into.push(first)?;
+        if !has_more(&behind) {
+            return newline(&behind);
+        }
+        place = advance(&behind, 1);
+    }
+    Err(fault(&place))
+}
+
+/// The split that a line says, and the place behind it.
+#[tactic(auto, unfolding(crate::specs::Fault::split_line))]
+fn split_line<'a>(place: &Place<'a>) -> Result<(Kept, Place<'a>), DocFault>
+    ensures said { Tells (λ x. (node_in [] x.0, cursor x.1)) result (spec.split_line (cursor place.now)) }
+    ensures moves { IfOk result (λ x. place.now.at < x.1.at) }
+    ensures within { IfOk result (λ x. (ns : List ℕ) → IsWithin ns x.0) }
+{
+    let from = space(&keyword(place, b"split")?)?;
+    let (chosen, behind) = literal(&from)?;
+    let next = newline(&behind)?;
+    Ok((Kept::Split(chosen), next))
+}
+
+/// The leaf that a line says, whose numbers are appended, and the place behind it.
+#[tactic(auto, unfolding(crate::specs::Fault::leaf_line))]
+fn leaf_line<'a>(
+    place: &Place<'a>,
+    kept: &mut Vec<u32>,
+) -> Result<(Kept, Place<'a>), DocFault>
+    requires { length kept.old.items ≤ place.now.at }
+    ensures said { Reads (λ x. (node_in kept.new.items x.0, cursor x.1)) result (spec.leaf_line (cursor place.now)) }
+    ensures moves { IfOk result (λ x. (place.now.at < x.1.at) × (length kept.new.items ≤ x.1.at)) }
+    ensures within { IfOk result (λ x. IsWithin kept.new.items x.0) }
+    ensures fits { OnOk result (AllByRecursion IsNumber kept.old.items → AllByRecursion IsNumber kept.new.items) }
+    ensures longer { OnOk result ((ns : List ℕ) × (kept.new.items ≡ kept.old.items ++ ns)) }
+{
+    let from = space(&keyword(place, b"leaf")?)?;
+    let first = kept.len() as u32;
+    let next = numbers(&from, kept)?;
+    let last = kept.len() as u32;
+    Ok((
+        Kept::Leaf {
+            from: first,
+            to: last,
+        },
+        next,
+    ))
+}
+
+/// The node that a line says, and the place behind it. The numbers of a leaf are appended.
+fn node<'a>(place: &Place<'a>, kept: &mut Vec<u32>) -> Result<(Kept, Place<'a>), DocFault>
+    requires { length kept.old.items ≤ place.now.at }
+    ensures said { Reads (λ x. (node_in kept.new.items x.0, cursor x.1)) result (spec.node (cursor place.now)) }
+    ensures moves { IfOk result (λ x. (place.now.at < x.1.at) × (length kept.new.items ≤ x.1.at)) }
+    ensures within { IfOk result (λ x. IsWithin kept.new.items x.0) }
+    ensures fits { OnOk result (AllByRecursion IsNumber kept.old.items → AllByRecursion IsNumber kept.new.items) }
+    ensures longer { OnOk result ((ns : List ℕ) × (kept.new.items ≡ kept.old.items ++ ns)) }
+{
+    if says(place, b"split") {
+        split_line(place)
+    } else {
+        leaf_line(place, kept)
+    }
+}
+
+/// The place behind the nodes of a tree, which are appended.
+fn nodes<'a>(
+    from: &Place<'a>,
+    kept: &mut Vec<u32>,
+    into: &mut Vec<Kept>,
+) -> Result<Place<'a>, DocFault>
+    requires numbers { length kept.old.items ≤ from.now.at }
+    requires whole { IsKept kept.old.items into.old.items }
+    ensures said { Adds (nodes_in kept.old.items into.old.items) (nodes_in kept.new.items into.new.items) result (spec.nodes (length from.now.rest.now) (cursor from.now)) }
+    ensures moves { IfOk result (λ p. (length into.new.items + from.now.at ≤ length into.old.items + p.at) × (length kept.new.items ≤ p.at)) }
+    ensures some { OnOk result (length into.old.items < length into.new.items) }
+    ensures whole { OnOk result (IsKept kept.new.items into.new.items) }
+{
+    let mut place = *from;
+    'lines: for _ in 0..from.rest.len() {
+        let (first, behind) = node(&place, kept)?;
+        into.push(first)?;
+        if !says(&behind, b"split") && !says(&behind, b"leaf") {
+            return Ok(behind);
+        }
+        place = behind;
+    }
+    Err(fault(&place))
+}
+
+/// The place behind the trees, which are appended.
+fn trees<'a>(
+    from: &Place<'a>,
+    kept: &mut Vec<u32>,
+    into: &mut Vec<Kept>,
+    ends: &mut Vec<u32>,
+) -> Result<Place<'a>, DocFault>
+    requires { (kept.old.items ≡ []) × (into.old.items ≡ []) × (ends.old.items ≡ []) }
+    ensures said { Reads (λ p. (pieces (nodes_in kept.new.items into.new.items) 0 ends.new.items, cursor p)) result (spec.trees (length from.now.rest.now) 1 (cursor from.now)) }
+    ensures moves { IfOk result (λ p. length into.new.items + length ends.new.items + from.now.at ≤ p.at) }
+    ensures few { OnOk result (length ends.new.items < 2 ^ 31) }
+    ensures rise { OnOk result (Rise 0 ends.new.items (length into.new.items)) }
+    ensures whole { OnOk result (IsKept kept.new.items into.new.items) }
+{
+    let mut place = *from;
+    'trees: for _ in 0..from.rest.len() {
+        if !says(&place, b"obligation") {
+            return Ok(place);
+        }
+        let behind = obligation(&place, ends.len() as u32 + 1)?;
+        place = nodes(&behind, kept, into)?;
+        ends.push(into.len() as u32)?;
+    }
+    Err(fault(&place))
+}

@@ -1,0 +1,38 @@
+//! The text of a derivation.
+
+ghost use Rattle.std.specs.Prelude.{◌≡◌, ◌++◌, IfOk, OnOk};
+ghost use Rattle.pg_derivation.specs.Derivation.{trees_of, nodes_of};
+ghost use Rattle.pg_derivation.specs.Text.{text_of, nodes_text};
+
+use crate::derivation::{Derivation, DocNode, TreeView};
+use crate::lines::{append_end, append_header, append_leaf, append_obligation, append_split};
+use std::alloc::{AllocError, Global};
+
+/// The one spelling of a derivation.
+pub fn print_derivation(alloc: Global, d: &Derivation) -> Result<Vec<u8>, AllocError>
+    ensures { IfOk result (λ text. text.items ≡ text_of (trees_of d.now)) }
+{
+    let mut text = Vec::new(alloc);
+    append_header(&mut text)?;
+    let trees = d.trees();
+    for i in 1..=trees {
+        append_obligation(&mut text, i)?;
+        append_tree(&mut text, &d.tree(i))?;
+    }
+    append_end(&mut text)?;
+    Ok(text)
+}
+
+/// Appends the lines of a tree.
+fn append_tree(text: &mut Vec<u8>, tree: &TreeView<'_>) -> Result<(), AllocError>
+    ensures { OnOk result (text.new.items ≡ text.old.items ++ nodes_text (nodes_of tree.now)) }
+{
+    let len = tree.len();
+    for k in 1..=len {
+        match tree.node(k) {
+            DocNode::Split(literal) => append_split(text, literal)?,
+            DocNode::Leaf(numbers) => append_leaf(text, numbers)?,
+        }
+    }
+    Ok(())
+}

@@ -1,0 +1,167 @@
+//! What stands at a place of a text: words, numbers, the end of a line.
+
+ghost use Rattle.std.specs.Prelude.{◌≡◌, ◌<◌, ◌≤◌, ◌+◌, ◌==◌, true, length, slice_index};
+ghost use Rattle.std.specs.List.{prefix_len};
+ghost use Rattle.pg_document.specs.declared.fault.DocFault.TheVariants.{Unexpected};
+ghost use Rattle.pg_derivation.specs.Fault as spec;
+ghost use Rattle.pg_derivation.specs.Place.{cursor, Tells};
+
+use crate::place::Place;
+use pg_document::DocFault;
+use pg_region::Lit;
+
+/// A number of a derivation is at most this.
+const GREATEST: u64 = (1 << 31) - 1;
+
+/// Whether a byte may stand in a word.
+fn in_word(byte: u8) -> bool
+    ensures { result ≡ spec.in_word byte }
+{
+    !(byte == b' ' || byte == b'\n')
+}
+
+/// How many bytes the word has.
+fn word_len(bytes: &[u8]) -> usize
+    ensures value { result ≡ prefix_len spec.in_word bytes.now }
+    ensures within { result ≤ length bytes.now }
+{
+    bytes.iter().take_while(|byte| in_word(**byte)).count()
+}
+
+/// The word at a place.
+pub fn word<'a>(place: &Place<'a>) -> &'a [u8]
+    ensures { result.now ≡ spec.word (cursor place.now) }
+{
+    &place.rest[..word_len(place.rest)]
+}
+
+/// The place so many bytes further on.
+pub fn advance<'a>(place: &Place<'a>, bytes: usize) -> Place<'a>
+    requires { bytes ≤ length place.now.rest.now }
+    ensures { cursor result ≡ spec.advance bytes (cursor place.now) }
+{
+    Place {
+        at: place.at + bytes as u32,
+        rest: &place.rest[bytes..],
+    }
+}
+
+/// The place behind the word.
+pub fn behind<'a>(place: &Place<'a>) -> Place<'a>
+    ensures { cursor result ≡ spec.behind (cursor place.now) }
+{
+    advance(place, word_len(place.rest))
+}
+
+/// The fault of what stands at a place.
+pub fn fault(place: &Place<'_>) -> DocFault
+    ensures { result ≡ Unexpected place.now.at }
+{
+    DocFault::Unexpected(place.at)
+}
+
+/// Whether this word stands at a place.
+pub fn says(place: &Place<'_>, expected: &[u8]) -> bool
+    ensures { result ≡ spec.says expected.now (cursor place.now) }
+{
+    word(place) == expected
+}
+
+/// The place behind this word.
+pub fn keyword<'a>(place: &Place<'a>, expected: &[u8]) -> Result<Place<'a>, DocFault>
+    ensures { Tells cursor result (spec.keyword expected.now (cursor place.now)) }
+{
+    if says(place, expected) {
+        Ok(behind(place))
+    } else {
+        Err(fault(place))
+    }
+}
+
+/// The place behind the space that stands behind a word.
+pub fn space<'a>(place: &Place<'a>) -> Result<Place<'a>, DocFault>
+    ensures { Tells cursor result (spec.space (cursor place.now)) }
+{
+    match place.rest {
+        [b' ', ..] => Ok(advance(place, 1)),
+        _ => Err(fault(place)),
+    }
+}
+
+/// The place behind the newline that stands behind a word.
+pub fn newline<'a>(place: &Place<'a>) -> Result<Place<'a>, DocFault>
+    ensures { Tells cursor result (spec.newline (cursor place.now)) }
+{
+    match place.rest {
+        [] => Err(fault(place)),
+        [b'\n', ..] => Ok(advance(place, 1)),
+        [_, ..] => Err(fault(&advance(place, 1))),
+    }
+}
+
+/// Whether a word follows behind this place, which stands behind a word.
+pub fn has_more(place: &Place<'_>) -> bool
+    ensures value { result ≡ (slice_index place.now.rest.now 0 == 32) }
+    ensures within { result ≡ true → 0 < length place.now.rest.now }
+{
+    matches!(place.rest, [b' ', ..])
+}
+
+/// The number that a word spells.
+fn number_in(word: &[u8]) -> Option<u32>
+    ensures { result ≡ spec.number_in word.now }
+{
+    let [first, ..] = word else {
+        return None;
+    };
+    if *first == b'0' {
+        return None;
+    }
+    value_of(word)
+}
+
+/// The value of digits, unless it is above the greatest.
+fn value_of(digits: &[u8]) -> Option<u32> {
+    let mut value: u64 = 0;
+    for digit in digits {
+        if !digit.is_ascii_digit() {
+            return None;
+        }
+        value = value * 10 + u64::from(*digit - b'0');
+        if value > GREATEST {
+            return None;
+        }
+    }
+    Some(value as u32)
+}
+
+/// The literal that a word spells.
+fn literal_in(word: &[u8]) -> Option<Lit>
+    ensures { result ≡ spec.literal_in word.now }
+{
+    match word {
+        [] => None,
+        [b'-', digits @ ..] => number_in(digits).map(|atom| Lit::of(atom, false)),
+        [_, ..] => number_in(word).map(|atom| Lit::of(atom, true)),
+    }
+}
+
+/// The number at a place, and the place behind it.
+pub fn number<'a>(place: &Place<'a>) -> Result<(u32, Place<'a>), DocFault>
+    ensures { Tells (λ x. (x.0, cursor x.1)) result (spec.number (cursor place.now)) }
+{
+    match number_in(word(place)) {
+        Some(number) => Ok((number, behind(place))),
+        None => Err(fault(place)),
+    }
+}
+
+/// The literal at a place, and the place behind it.
+pub fn literal<'a>(place: &Place<'a>) -> Result<(Lit, Place<'a>), DocFault>
+    ensures { Tells (λ x. (x.0, cursor x.1)) result (spec.literal (cursor place.now)) }
+{
+    match literal_in(word(place)) {
+        Some(literal) => Ok((literal, behind(place))),
+        None => Err(fault(place)),
+    }
+}
