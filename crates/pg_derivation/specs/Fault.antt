@@ -79,13 +79,14 @@ abbrev pub value_from : ℕ → List ℕ → ℕ
 value_from n [] = n
 value_from n (d ∷ ds) = value_from (n * 10 + (d - 48)) ds
 
--- digits without a leading zero, of 1 to 2147483647
-abbrev pub spells_number : List ℕ → Bool
-spells_number [] = false
-spells_number (b ∷ bs) = all_digits (b ∷ bs) && (not (b == 48) && nat_lt (value_from 0 (b ∷ bs)) (2 ^ 31))
+-- what digits spell after digits that spell n, unless it is above 2147483647
+abbrev pub value_after : ℕ → List ℕ → Option ℕ
+value_after n ds = if all_digits ds && nat_lt (value_from n ds) (2 ^ 31) then Some (value_from n ds) else None
 
+-- digits without a leading zero, of 1 to 2147483647
 unfoldable pub number_in : List ℕ → Option ℕ
-number_in w = if spells_number w then Some (value_from 0 w) else None
+number_in [] = None
+number_in (b ∷ bs) = if b == 48 then None else value_after 0 (b ∷ bs)
 
 abbrev pub meant : Bool → Option ℕ → Option Literal
 meant positive None = None

@@ -1,8 +1,10 @@
 //! Derivations, and the trees that they lend.
 
-ghost use Rattle.std.specs.Prelude.{◌≡◌, ◌-◌, ◌≤◌, ◌∷◌, slice_index_or, length};
+ghost use Rattle.std.specs.Prelude.{◌≡◌, ◌-◌, ◌<◌, ◌≤◌, ◌∷◌, slice_index, slice_index_or, slice_range, length};
 ghost use Rattle.pg_derivation.specs.Derivation.{DerivationTable, TreeTable, IsDerivation, IsTree, IsNode, tree_at, line_at};
+ghost use Rattle.pg_derivation.specs.Kept.{node_in, IsWithin};
 ghost use Rattle.pg_derivation.specs.Lent.{node_of};
+ghost use Rattle.pg_region.specs.Pieces.{AreEnds};
 
 use crate::kept::Kept;
 use pg_region::Lit;
@@ -67,10 +69,9 @@ impl Derivation {
     {
         let place = (i - 1) as usize;
         let from = end_of(&self.ends, place);
-        let to = self.ends[place] as usize;
         TreeView {
             numbers: &self.numbers,
-            nodes: &self.nodes[from..to],
+            nodes: piece(&self.nodes, &self.ends, place),
             first: i + from as u32 + 2,
         }
     }
@@ -121,13 +122,31 @@ impl<'a> TreeView<'a> {
         ensures said { node_of result ≡ (line_at self.now k).node }
         ensures fits { IsNode (node_of result) }
     {
-        match &self.nodes[(k - 1) as usize] {
-            Kept::Split(literal) => DocNode::Split(*literal),
-            Kept::Leaf { from, to } => {
-                DocNode::Leaf(&self.numbers[*from as usize..*to as usize])
-            }
-        }
+        let node = &self.nodes[(k - 1) as usize];
+        lent(self.numbers, node)
     }
+}
+
+/// A node, whose numbers stand among these.
+fn lent<'a>(numbers: &'a [u32], node: &Kept) -> DocNode<'a>
+    requires { IsWithin numbers.now node.now }
+    ensures { node_of result ≡ node_in numbers.now node.now }
+{
+    match node {
+        Kept::Split(literal) => DocNode::Split(*literal),
+        Kept::Leaf { from, to } => DocNode::Leaf(&numbers[*from as usize..*to as usize]),
+    }
+}
+
+/// The nodes of the tree with this place.
+fn piece<'a>(nodes: &'a [Kept], ends: &[u32], place: usize) -> &'a [Kept]
+    requires ends { AreEnds 0 ends.now (length nodes.now) }
+    requires place { place < length ends.now }
+    ensures { result.now ≡ slice_range nodes.now (slice_index_or (0 ∷ ends.now) place 0) (slice_index ends.now place) }
+{
+    let from = end_of(ends, place);
+    let to = ends[place] as usize;
+    &nodes[from..to]
 }
 
 /// Where the first `count` trees end.

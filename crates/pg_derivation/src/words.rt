@@ -1,8 +1,9 @@
 //! What stands at a place of a text: words, numbers, the end of a line.
 
-ghost use Rattle.std.specs.Prelude.{◌≡◌, ◌<◌, ◌≤◌, ◌+◌, ◌==◌, true, length, slice_index};
+ghost use Rattle.std.specs.Prelude.{◌≡◌, ◌<◌, ◌≤◌, ◌+◌, ◌==◌, true, length, slice_index, IfOk, IfSome};
 ghost use Rattle.std.specs.List.{prefix_len};
 ghost use Rattle.pg_document.specs.declared.fault.DocFault.TheVariants.{Unexpected};
+ghost use Rattle.pg_derivation.specs.Derivation.{IsNumber};
 ghost use Rattle.pg_derivation.specs.Fault as spec;
 ghost use Rattle.pg_derivation.specs.Place.{cursor, Tells};
 
@@ -69,7 +70,8 @@ pub fn says(place: &Place<'_>, expected: &[u8]) -> bool
 
 /// The place behind this word.
 pub fn keyword<'a>(place: &Place<'a>, expected: &[u8]) -> Result<Place<'a>, DocFault>
-    ensures { Tells cursor result (spec.keyword expected.now (cursor place.now)) }
+    ensures said { Tells cursor result (spec.keyword expected.now (cursor place.now)) }
+    ensures moves { IfOk result (λ p. place.now.at ≤ p.at) }
 {
     if says(place, expected) {
         Ok(behind(place))
@@ -80,7 +82,8 @@ pub fn keyword<'a>(place: &Place<'a>, expected: &[u8]) -> Result<Place<'a>, DocF
 
 /// The place behind the space that stands behind a word.
 pub fn space<'a>(place: &Place<'a>) -> Result<Place<'a>, DocFault>
-    ensures { Tells cursor result (spec.space (cursor place.now)) }
+    ensures said { Tells cursor result (spec.space (cursor place.now)) }
+    ensures moves { IfOk result (λ p. place.now.at < p.at) }
 {
     match place.rest {
         [b' ', ..] => Ok(advance(place, 1)),
@@ -90,7 +93,8 @@ pub fn space<'a>(place: &Place<'a>) -> Result<Place<'a>, DocFault>
 
 /// The place behind the newline that stands behind a word.
 pub fn newline<'a>(place: &Place<'a>) -> Result<Place<'a>, DocFault>
-    ensures { Tells cursor result (spec.newline (cursor place.now)) }
+    ensures said { Tells cursor result (spec.newline (cursor place.now)) }
+    ensures moves { IfOk result (λ p. place.now.at < p.at) }
 {
     match place.rest {
         [] => Err(fault(place)),
@@ -107,7 +111,32 @@ pub fn has_more(place: &Place<'_>) -> bool
     matches!(place.rest, [b' ', ..])
 }
 
+/// Whether a byte is a digit.
+fn is_digit(byte: u8) -> bool
+    ensures { result ≡ spec.is_digit byte }
+{
+    matches!(byte, b'0'..=b'9')
+}
+
+/// What digits spell, unless it is above the greatest number.
+fn value_of(digits: &[u8]) -> Option<u32>
+    ensures { result ≡ spec.value_after 0 digits.now }
+{
+    let mut value: u64 = 0;
+    for digit in digits {
+        if !is_digit(*digit) {
+            return None;
+        }
+        value = value * 10 + u64::from(*digit - b'0');
+        if value > GREATEST {
+            return None;
+        }
+    }
+    Some(value as u32)
+}
+
 /// The number that a word spells.
+#[tactic(auto, unfolding(crate::specs::Fault::number_in))]
 fn number_in(word: &[u8]) -> Option<u32>
     ensures { result ≡ spec.number_in word.now }
 {
@@ -120,35 +149,26 @@ fn number_in(word: &[u8]) -> Option<u32>
     value_of(word)
 }
 
-/// The value of digits, unless it is above the greatest.
-fn value_of(digits: &[u8]) -> Option<u32> {
-    let mut value: u64 = 0;
-    for digit in digits {
-        if !digit.is_ascii_digit() {
-            return None;
-        }
-        value = value * 10 + u64::from(*digit - b'0');
-        if value > GREATEST {
-            return None;
-        }
-    }
-    Some(value as u32)
-}
-
 /// The literal that a word spells.
+#[tactic(auto, unfolding(crate::specs::Fault::literal_in))]
 fn literal_in(word: &[u8]) -> Option<Lit>
     ensures { result ≡ spec.literal_in word.now }
 {
-    match word {
-        [] => None,
-        [b'-', digits @ ..] => number_in(digits).map(|atom| Lit::of(atom, false)),
-        [_, ..] => number_in(word).map(|atom| Lit::of(atom, true)),
+    let [first, digits @ ..] = word else {
+        return None;
+    };
+    if *first == b'-' {
+        Some(Lit::of(number_in(digits)?, false))
+    } else {
+        Some(Lit::of(number_in(word)?, true))
     }
 }
 
 /// The number at a place, and the place behind it.
 pub fn number<'a>(place: &Place<'a>) -> Result<(u32, Place<'a>), DocFault>
-    ensures { Tells (λ x. (x.0, cursor x.1)) result (spec.number (cursor place.now)) }
+    ensures said { Tells (λ x. (x.0, cursor x.1)) result (spec.number (cursor place.now)) }
+    ensures moves { IfOk result (λ x. place.now.at ≤ x.1.at) }
+    ensures fits { IfOk result (λ x. IsNumber x.0) }
 {
     match number_in(word(place)) {
         Some(number) => Ok((number, behind(place))),
@@ -158,7 +178,9 @@ pub fn number<'a>(place: &Place<'a>) -> Result<(u32, Place<'a>), DocFault>
 
 /// The literal at a place, and the place behind it.
 pub fn literal<'a>(place: &Place<'a>) -> Result<(Lit, Place<'a>), DocFault>
-    ensures { Tells (λ x. (x.0, cursor x.1)) result (spec.literal (cursor place.now)) }
+    ensures said { Tells (λ x. (x.0, cursor x.1)) result (spec.literal (cursor place.now)) }
+    ensures moves { IfOk result (λ x. place.now.at ≤ x.1.at) }
+    ensures fits { IfOk result (λ x. IsNumber x.0.atom) }
 {
     match literal_in(word(place)) {
         Some(literal) => Ok((literal, behind(place))),
