@@ -154,12 +154,15 @@ node c = if says (codes "split") c then split_line c else leaf_line c
 
 -- ---- trees
 
+abbrev pub is_node : Cursor → Bool
+is_node c = says (codes "split") c || says (codes "leaf") c
+
 -- a line, and those behind it that are lines of a tree: at most so many
 unfoldable pub nodes : ℕ → Cursor → Read (List Node)
 nodes zero c = fault c
 nodes (suc n) c = do
   first ← node c
-  if says (codes "split") first.1 || says (codes "leaf") first.1
+  if is_node first.1
     then (nodes n first.1 >>= λ more. Ok (first.0 ∷ more.0, more.1))
     else Ok (first.0 ∷ [], first.1)
 

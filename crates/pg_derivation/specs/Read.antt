@@ -1,5 +1,5 @@
 -- What a call answers that reads.
-use Rattle.std.specs.Prelude.{◌≡◌, ◌≢◌, ℕ, List, ◌++◌, Result, Ok, Err}
+use Rattle.std.specs.Prelude.{◌≡◌, ◌≢◌, ℕ, List, [], ◌∷◌, ◌++◌, Result, Ok, Err}
 use Rattle.pg_document.specs.declared.fault.DocFault.{DocFault}
 use Rattle.pg_document.specs.declared.fault.DocFault.TheVariants.{NoMemory}
 use Rattle.pg_derivation.specs.declared.place.Place.{Place}
@@ -15,6 +15,10 @@ Reads view (Err e) read = e ≢ NoMemory → read ≡ Err e
 -- what was read before, and what is read from here on
 abbrev pub with_front : {A : Type 0} → List A → Read (List A) → Read (List A)
 with_front front read = read >>= λ x. Ok (front ++ x.0, x.1)
+
+-- what was read, as a list
+abbrev pub alone : {A : Type 0} → Read A → Read (List A)
+alone read = read >>= λ x. Ok (x.0 ∷ [], x.1)
 
 -- a list has become another one by what is read, up to the place that was returned
 abbrev pub Adds : {A : Type 0} → List A → List A → Result Place DocFault → Read (List A) → Type 0

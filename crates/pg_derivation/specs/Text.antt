@@ -1,6 +1,5 @@
 -- The one spelling of a derivation: a header, for each obligation its line and the lines of its tree, and a last line.
 use Rattle.std.specs.Prelude.{ℕ, ◌+◌, Bool, true, false, List, [], ◌∷◌, ◌++◌, codes, decimal}
-use Rattle.std.specs.List.{flat_map}
 use Rattle.pg_region.specs.Literal.{Literal}
 use Rattle.pg_derivation.specs.Derivation.{Node, split, leaf}
 
@@ -25,7 +24,8 @@ split_text l = codes "split " ++ (literal_text l ++ codes "\n")
 
 -- each number with the blank in front of it
 abbrev pub numbers_text : List ℕ → List ℕ
-numbers_text ns = flat_map (λ n. codes " " ++ decimal n) ns
+numbers_text [] = []
+numbers_text (n ∷ ns) = codes " " ++ (decimal n ++ numbers_text ns)
 
 abbrev pub leaf_text : List ℕ → List ℕ
 leaf_text ns = codes "leaf" ++ (numbers_text ns ++ codes "\n")

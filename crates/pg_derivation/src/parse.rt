@@ -5,16 +5,16 @@ ghost use Rattle.std.specs.List.{AllByRecursion};
 ghost use Rattle.pg_region.specs.Pieces.{pieces};
 ghost use Rattle.pg_document.specs.declared.fault.DocFault.TheVariants.{NoMemory};
 ghost use Rattle.pg_derivation.specs.Derivation.{Node, IsNumber, AreTrees, trees_of, numbered};
-ghost use Rattle.pg_derivation.specs.Kept.{node_in, nodes_in, IsWithin, IsKept, Rise};
+ghost use Rattle.pg_derivation.specs.Kept.{nodes_in, IsKept, Rise};
 ghost use Rattle.pg_derivation.specs.Place.{cursor, Tells};
 ghost use Rattle.pg_derivation.specs.Text.{text_of};
 ghost use Rattle.pg_derivation.specs.Fault as spec;
-ghost use Rattle.pg_derivation.specs.Read.{Reads, Adds, ReadsTrees};
+ghost use Rattle.pg_derivation.specs.Read.{Reads, Adds, ReadsTrees, alone};
 
 use crate::derivation::Derivation;
 use crate::kept::Kept;
 use crate::place::Place;
-use crate::words::{advance, fault, has_more, keyword, literal, newline, number, says, space};
+use crate::words::{advance, behind, fault, has_more, keyword, literal, newline, number, says, space};
 use pg_document::DocFault;
 use std::alloc::Global;
 
@@ -42,8 +42,8 @@ fn read(alloc: Global, text: &[u8]) -> Result<Derivation, DocFault>
     let mut numbers = Vec::new(alloc);
     let mut nodes = Vec::new(alloc);
     let mut ends = Vec::new(alloc);
-    let behind = trees(&from, &mut numbers, &mut nodes, &mut ends)?;
-    closing(&behind)?;
+    let after = trees(&from, &mut numbers, &mut nodes, &mut ends)?;
+    closing(&after)?;
     Ok(Derivation::of(numbers, nodes, ends))
 }
 
@@ -54,9 +54,9 @@ fn header<'a>(place: &Place<'a>) -> Result<Place<'a>, DocFault>
     ensures moves { IfOk result (λ p. place.now.at < p.at) }
 {
     let from = space(&keyword(place, b"derivation")?)?;
-    let (version, behind) = number(&from)?;
+    let (version, after) = number(&from)?;
     if version == 1 {
-        newline(&behind)
+        newline(&after)
     } else {
         Err(DocFault::Version(version))
     }
@@ -70,9 +70,9 @@ fn obligation<'a>(place: &Place<'a>, i: u32) -> Result<Place<'a>, DocFault>
     ensures fits { OnOk result (i < 2 ^ 31) }
 {
     let from = space(&keyword(place, b"obligation")?)?;
-    let (given, behind) = number(&from)?;
+    let (given, after) = number(&from)?;
     if given == i {
-        newline(&behind)
+        newline(&after)
     } else {
         Err(fault(&from))
     }
@@ -84,11 +84,11 @@ fn closing<'a>(place: &Place<'a>) -> Result<Place<'a>, DocFault>
     ensures said { Tells cursor result (spec.closing (cursor place.now)) }
     ensures moves { IfOk result (λ p. place.now.at < p.at) }
 {
-    let behind = newline(&keyword(place, b"end")?)?;
-    if behind.rest.is_empty() {
-        Ok(behind)
+    let after = newline(&keyword(place, b"end")?)?;
+    if after.rest.is_empty() {
+        Ok(after)
     } else {
-        Err(fault(&behind))
+        Err(fault(&after))
     }
 }
 
@@ -99,71 +99,84 @@ fn numbers<'a>(from: &Place<'a>, into: &mut Vec<u32>) -> Result<Place<'a>, DocFa
     ensures some { OnOk result (length into.old.items < length into.new.items) }
     ensures fits { OnOk result (AllByRecursion IsNumber into.old.items → AllByRecursion IsNumber into.new.items) }
 {
+    let turns = from.rest.len();
     let mut place = *from;
-    'words: for _ in 0..from.rest.len() {
-        let (first, behind) = number(&place)?;
+    'words: for _ in 0..turns {
+        let (first, after) = number(&place)?;
         into.push(first)?;
-        if !has_more(&behind) {
-            return newline(&behind);
+        if !has_more(&after) {
+            return newline(&after);
         }
-        place = advance(&behind, 1);
+        place = advance(&after, 1);
     }
     Err(fault(&place))
 }
 
-/// The split that a line says, and the place behind it.
+/// The place behind the line of a split, which is appended.
 #[tactic(auto, unfolding(crate::specs::Fault::split_line))]
-fn split_line<'a>(place: &Place<'a>) -> Result<(Kept, Place<'a>), DocFault>
-    ensures said { Tells (λ x. (node_in [] x.0, cursor x.1)) result (spec.split_line (cursor place.now)) }
-    ensures moves { IfOk result (λ x. place.now.at < x.1.at) }
-    ensures within { IfOk result (λ x. (ns : List ℕ) → IsWithin ns x.0) }
+fn split_line<'a>(place: &Place<'a>, into: &mut Vec<Kept>) -> Result<Place<'a>, DocFault>
+    ensures said { (ns : List ℕ) → Adds (nodes_in ns into.old.items) (nodes_in ns into.new.items) result (alone (spec.split_line (cursor place.now))) }
+    ensures moves { IfOk result (λ p. place.now.at < p.at) }
+    ensures one { OnOk result (length into.new.items ≡ length into.old.items + 1) }
+    ensures whole { (ns : List ℕ) → IsKept ns into.old.items → OnOk result (IsKept ns into.new.items) }
 {
     let from = space(&keyword(place, b"split")?)?;
-    let (chosen, behind) = literal(&from)?;
-    let next = newline(&behind)?;
-    Ok((Kept::Split(chosen), next))
+    let chosen = literal(&from)?;
+    let next = newline(&behind(&from))?;
+    into.push(Kept::Split(chosen))?;
+    Ok(next)
 }
 
-/// The leaf that a line says, whose numbers are appended, and the place behind it.
+/// The place behind the line of a leaf, which is appended.
 #[tactic(auto, unfolding(crate::specs::Fault::leaf_line))]
 fn leaf_line<'a>(
     place: &Place<'a>,
     kept: &mut Vec<u32>,
-) -> Result<(Kept, Place<'a>), DocFault>
-    requires { length kept.old.items ≤ place.now.at }
-    ensures said { Reads (λ x. (node_in kept.new.items x.0, cursor x.1)) result (spec.leaf_line (cursor place.now)) }
-    ensures moves { IfOk result (λ x. (place.now.at < x.1.at) × (length kept.new.items ≤ x.1.at)) }
-    ensures within { IfOk result (λ x. IsWithin kept.new.items x.0) }
-    ensures fits { OnOk result (AllByRecursion IsNumber kept.old.items → AllByRecursion IsNumber kept.new.items) }
-    ensures longer { OnOk result ((ns : List ℕ) × (kept.new.items ≡ kept.old.items ++ ns)) }
+    into: &mut Vec<Kept>,
+) -> Result<Place<'a>, DocFault>
+    requires numbers { length kept.old.items ≤ place.now.at }
+    requires whole { IsKept kept.old.items into.old.items }
+    ensures said { Adds (nodes_in kept.old.items into.old.items) (nodes_in kept.new.items into.new.items) result (alone (spec.leaf_line (cursor place.now))) }
+    ensures moves { IfOk result (λ p. (place.now.at < p.at) × (length kept.new.items ≤ p.at)) }
+    ensures one { OnOk result (length into.new.items ≡ length into.old.items + 1) }
+    ensures whole { OnOk result (IsKept kept.new.items into.new.items) }
 {
     let from = space(&keyword(place, b"leaf")?)?;
     let first = kept.len() as u32;
     let next = numbers(&from, kept)?;
     let last = kept.len() as u32;
-    Ok((
-        Kept::Leaf {
-            from: first,
-            to: last,
-        },
-        next,
-    ))
+    into.push(Kept::Leaf {
+        from: first,
+        to: last,
+    })?;
+    Ok(next)
 }
 
-/// The node that a line says, and the place behind it. The numbers of a leaf are appended.
-fn node<'a>(place: &Place<'a>, kept: &mut Vec<u32>) -> Result<(Kept, Place<'a>), DocFault>
-    requires { length kept.old.items ≤ place.now.at }
-    ensures said { Reads (λ x. (node_in kept.new.items x.0, cursor x.1)) result (spec.node (cursor place.now)) }
-    ensures moves { IfOk result (λ x. (place.now.at < x.1.at) × (length kept.new.items ≤ x.1.at)) }
-    ensures within { IfOk result (λ x. IsWithin kept.new.items x.0) }
-    ensures fits { OnOk result (AllByRecursion IsNumber kept.old.items → AllByRecursion IsNumber kept.new.items) }
-    ensures longer { OnOk result ((ns : List ℕ) × (kept.new.items ≡ kept.old.items ++ ns)) }
+/// The place behind the line of a node, which is appended.
+fn node<'a>(
+    place: &Place<'a>,
+    kept: &mut Vec<u32>,
+    into: &mut Vec<Kept>,
+) -> Result<Place<'a>, DocFault>
+    requires numbers { length kept.old.items ≤ place.now.at }
+    requires whole { IsKept kept.old.items into.old.items }
+    ensures said { Adds (nodes_in kept.old.items into.old.items) (nodes_in kept.new.items into.new.items) result (alone (spec.node (cursor place.now))) }
+    ensures moves { IfOk result (λ p. (place.now.at < p.at) × (length kept.new.items ≤ p.at)) }
+    ensures one { OnOk result (length into.new.items ≡ length into.old.items + 1) }
+    ensures whole { OnOk result (IsKept kept.new.items into.new.items) }
 {
     if says(place, b"split") {
-        split_line(place)
+        split_line(place, into)
     } else {
-        leaf_line(place, kept)
+        leaf_line(place, kept, into)
     }
+}
+
+/// Whether a line of a tree stands at a place.
+fn is_node(place: &Place<'_>) -> bool
+    ensures { result ≡ spec.is_node (cursor place.now) }
+{
+    says(place, b"split") || says(place, b"leaf")
 }
 
 /// The place behind the nodes of a tree, which are appended.
@@ -179,14 +192,13 @@ fn nodes<'a>(
     ensures some { OnOk result (length into.old.items < length into.new.items) }
     ensures whole { OnOk result (IsKept kept.new.items into.new.items) }
 {
+    let turns = from.rest.len();
     let mut place = *from;
-    'lines: for _ in 0..from.rest.len() {
-        let (first, behind) = node(&place, kept)?;
-        into.push(first)?;
-        if !says(&behind, b"split") && !says(&behind, b"leaf") {
-            return Ok(behind);
+    'lines: for _ in 0..turns {
+        place = node(&place, kept, into)?;
+        if !is_node(&place) {
+            return Ok(place);
         }
-        place = behind;
     }
     Err(fault(&place))
 }
@@ -205,13 +217,14 @@ fn trees<'a>(
     ensures rise { OnOk result (Rise 0 ends.new.items (length into.new.items)) }
     ensures whole { OnOk result (IsKept kept.new.items into.new.items) }
 {
+    let turns = from.rest.len();
     let mut place = *from;
-    'trees: for _ in 0..from.rest.len() {
+    'trees: for _ in 0..turns {
         if !says(&place, b"obligation") {
             return Ok(place);
         }
-        let behind = obligation(&place, ends.len() as u32 + 1)?;
-        place = nodes(&behind, kept, into)?;
+        let begun = obligation(&place, ends.len() as u32 + 1)?;
+        place = nodes(&begun, kept, into)?;
         ends.push(into.len() as u32)?;
     }
     Err(fault(&place))

@@ -2,7 +2,8 @@
 
 ghost use Rattle.std.specs.Prelude.{◌≡◌, ◌++◌, IfOk, OnOk};
 ghost use Rattle.pg_derivation.specs.Derivation.{trees_of, nodes_of};
-ghost use Rattle.pg_derivation.specs.Text.{text_of, nodes_text};
+ghost use Rattle.pg_derivation.specs.Lent.{node_of};
+ghost use Rattle.pg_derivation.specs.Text.{text_of, nodes_text, node_text};
 
 use crate::derivation::{Derivation, DocNode, TreeView};
 use crate::lines::{append_end, append_header, append_leaf, append_obligation, append_split};
@@ -15,9 +16,9 @@ pub fn print_derivation(alloc: Global, d: &Derivation) -> Result<Vec<u8>, AllocE
     let mut text = Vec::new(alloc);
     append_header(&mut text)?;
     let trees = d.trees();
-    for i in 1..=trees {
-        append_obligation(&mut text, i)?;
-        append_tree(&mut text, &d.tree(i))?;
+    for i in 0..trees {
+        append_obligation(&mut text, i + 1)?;
+        append_tree(&mut text, &d.tree(i + 1))?;
     }
     append_end(&mut text)?;
     Ok(text)
@@ -28,11 +29,18 @@ fn append_tree(text: &mut Vec<u8>, tree: &TreeView<'_>) -> Result<(), AllocError
     ensures { OnOk result (text.new.items ≡ text.old.items ++ nodes_text (nodes_of tree.now)) }
 {
     let len = tree.len();
-    for k in 1..=len {
-        match tree.node(k) {
-            DocNode::Split(literal) => append_split(text, literal)?,
-            DocNode::Leaf(numbers) => append_leaf(text, numbers)?,
-        }
+    for k in 0..len {
+        append_node(text, &tree.node(k + 1))?;
     }
     Ok(())
+}
+
+/// Appends the line of a node.
+fn append_node(text: &mut Vec<u8>, node: &DocNode<'_>) -> Result<(), AllocError>
+    ensures { OnOk result (text.new.items ≡ text.old.items ++ node_text (node_of node.now)) }
+{
+    match node {
+        DocNode::Split(literal) => append_split(text, *literal),
+        DocNode::Leaf(numbers) => append_leaf(text, numbers),
+    }
 }

@@ -176,14 +176,13 @@ pub fn number<'a>(place: &Place<'a>) -> Result<(u32, Place<'a>), DocFault>
     }
 }
 
-/// The literal at a place, and the place behind it.
-pub fn literal<'a>(place: &Place<'a>) -> Result<(Lit, Place<'a>), DocFault>
-    ensures said { Tells (λ x. (x.0, cursor x.1)) result (spec.literal (cursor place.now)) }
-    ensures moves { IfOk result (λ x. place.now.at ≤ x.1.at) }
-    ensures fits { IfOk result (λ x. IsNumber x.0.atom) }
+/// The literal at a place.
+pub fn literal(place: &Place<'_>) -> Result<Lit, DocFault>
+    ensures said { Tells (λ l. (l, spec.behind (cursor place.now))) result (spec.literal (cursor place.now)) }
+    ensures fits { IfOk result (λ l. IsNumber l.atom) }
 {
     match literal_in(word(place)) {
-        Some(literal) => Ok((literal, behind(place))),
+        Some(literal) => Ok(literal),
         None => Err(fault(place)),
     }
 }
