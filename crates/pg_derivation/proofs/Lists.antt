@@ -1,5 +1,6 @@
 -- Lists: what holds of each item holds of each item of a part.
-use Rattle.std.proofs.Common.{◌≡◌, ℕ, zero, suc, ◌+◌, ◌-◌, ◌<◌, ◌≤◌, List, [], ◌∷◌, ◌++◌, length, get_or, take, drop, refl, arith}
+use Rattle.std.proofs.Common.{◌≡◌, ℕ, zero, suc, ◌+◌, ◌-◌, ◌<◌, ◌≤◌, List, [], ◌∷◌, ◌++◌, Result, Ok, Err, length, get_or, take, drop, refl, arith}
+use Rattle.std.specs.Prelude.{OnOk}
 use Rattle.std.specs.List.{AllByRecursion}
 
 pub each-drop : {A : Type 0} (P : A → Type 0) (n : ℕ) (xs : List A) → AllByRecursion P xs → AllByRecursion P (drop n xs)
@@ -20,3 +21,7 @@ pub each-at : {A : Type 0} (P : A → Type 0) (xs : List A) (k : ℕ) (d : A) �
 each-at P [] k d lt h = absurd (omega arith)
 each-at P (x ∷ xs) zero d lt h = h.0
 each-at P (x ∷ xs) (suc k) d lt h = each-at P xs k d (omega arith) h.1
+
+pub on_ok : {T E P : Type 0} (r : Result T E) → P → OnOk r P
+on_ok (Ok x) h = h
+on_ok (Err e) h = tt

@@ -95,7 +95,7 @@ fn closing<'a>(place: &Place<'a>) -> Result<Place<'a>, DocFault>
 /// The place behind the numbers of a line, which are appended.
 fn numbers<'a>(from: &Place<'a>, into: &mut Vec<u32>) -> Result<Place<'a>, DocFault>
     ensures said { Adds into.old.items into.new.items result (spec.numbers (length from.now.rest.now) (cursor from.now)) }
-    ensures moves { IfOk result (λ p. length into.new.items + from.now.at < length into.old.items + p.at) }
+    ensures moves { IfOk result (λ p. length into.new.items + from.now.at ≤ length into.old.items + p.at) }
     ensures some { OnOk result (length into.old.items < length into.new.items) }
     ensures fits { OnOk result (AllByRecursion IsNumber into.old.items → AllByRecursion IsNumber into.new.items) }
 {
