@@ -1,0 +1,5 @@
+pub mod Schedule
+pub mod Words
+pub mod Reading
+pub mod Printing
+pub mod Held

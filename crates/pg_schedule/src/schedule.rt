@@ -1,0 +1,126 @@
+//! Schedules, as they are kept.
+
+ghost use Rattle.std.specs.Prelude.{◌≡◌, ◌+◌, ◌^◌, ◌<◌, [], ◌∷◌, ◌++◌, length, All, OnOk};
+ghost use Rattle.pg_schedule.specs.Schedule.{step, crash, number_at, act_at};
+ghost use Rattle.pg_schedule.specs.Held.{IsNumber, IsEventOfNumbers, act_lent, IsShort};
+
+use pg_machine::Event;
+use std::alloc::{AllocError, Global};
+use std::marker::Model;
+
+/// What a line of a schedule says, lent by it.
+#[derive(Clone, Copy)]
+pub enum ScheduleAct<'a> {
+    /// A step of a thread.
+    Step(Event),
+    /// A crash, with the position of the memory at which it finds each location.
+    Crash(&'a [u32]),
+}
+
+/// Where the positions of a crash lie.
+#[derive(Clone, Copy, Drop)]
+pub struct Span {
+    pub from: usize,
+    pub count: u32,
+}
+
+#[derive(Clone, Copy, Drop)]
+pub enum EntryAct {
+    Step(Event),
+    Crash(Span),
+}
+
+/// A line, with its number from 1 on.
+#[derive(Clone, Copy, Drop)]
+pub struct Entry {
+    pub number: u32,
+    pub act: EntryAct,
+}
+
+/// A schedule: steps and crashes, each with the number of its line. Contracts see it as the list of them. It has fewer than
+/// 2^32 lines, and each crash has fewer than 2^32 positions.
+#[derive(Drop)]
+pub struct Schedule {
+    entries: Vec<Entry>,
+    positions: Vec<u32>,
+}
+
+impl Model for Schedule {
+    ghost use Rattle.pg_schedule.specs.Schedule.{ScheduleTable};
+    ghost use Rattle.pg_schedule.specs.Held.{held_lines, AreHeld};
+
+    ghost Value = { ScheduleTable };
+
+    ghost view = { λ s. held_lines s.positions.items s.entries.items };
+
+    ghost invariant = { λ s. AreHeld s.positions.items s.entries.items };
+}
+
+impl Schedule {
+    /// Without lines.
+    pub(crate) fn new(alloc: Global) -> Schedule
+        ensures { result ≡ [] }
+    {
+        Schedule {
+            entries: Vec::new(alloc),
+            positions: Vec::new(alloc),
+        }
+    }
+
+    /// The number of acts.
+    pub fn len(&self) -> u32
+        ensures count { result ≡ length self.now }
+    {
+        self.entries.len() as u32
+    }
+
+    /// The number of the line of act k, counted from 0.
+    pub fn line(&self, k: u32) -> u32
+        requires { k < length self.now }
+        ensures { result ≡ number_at self.now k }
+    {
+        self.entries[k as usize].number
+    }
+
+    /// Act k, counted from 0.
+    pub fn act<'a>(&'a self, k: u32) -> ScheduleAct<'a>
+        requires { k < length self.now }
+        ensures act { act_lent result ≡ act_at self.now k }
+        ensures short { IsShort result }
+    {
+        match self.entries[k as usize].act {
+            EntryAct::Step(event) => ScheduleAct::Step(event),
+            EntryAct::Crash(span) => ScheduleAct::Crash(&self.positions[span.from..span.from + span.count as usize]),
+        }
+    }
+
+    /// Adds a line with a step.
+    pub(crate) fn push_step(&mut self, number: u32, event: Event) -> Result<(), AllocError>
+        requires { length self.old + 1 < 2 ^ 32 }
+        ensures { OnOk result (self.new ≡ self.old ++ record { number = number; act = step event } ∷ []) }
+    {
+        self.entries.push(Entry {
+            number,
+            act: EntryAct::Step(event),
+        })?;
+        Ok(())
+    }
+
+    /// Adds a line with a crash.
+    pub(crate) fn push_crash(&mut self, number: u32, at: &[u32]) -> Result<(), AllocError>
+        requires few { length self.old + 1 < 2 ^ 32 }
+        requires short { length at.now < 2 ^ 32 }
+        ensures { OnOk result (self.new ≡ self.old ++ record { number = number; act = crash at.now } ∷ []) }
+    {
+        let from = self.positions.len();
+        self.positions.extend_from_slice(at)?;
+        self.entries.push(Entry {
+            number,
+            act: EntryAct::Crash(Span {
+                from,
+                count: at.len() as u32,
+            }),
+        })?;
+        Ok(())
+    }
+}
