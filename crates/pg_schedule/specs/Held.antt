@@ -1,16 +1,19 @@
 -- What contracts see of a schedule: its lines, each with its act. The positions of all crashes lie in one list.
-use Rattle.std.specs.Prelude.{ℕ, ◌+◌, ◌^◌, ◌<◌, ◌≤◌, List, [], ◌∷◌, length, map, slice_range, Option, Some, None, All}
+use Rattle.std.specs.Prelude.{ℕ, ◌+◌, ◌^◌, ◌<◌, ◌≤◌, List, [], ◌∷◌, length, map, slice_range, Option, Some, None}
 use Rattle.pg_machine.specs.declared.event.Event.{Event}
 use Rattle.pg_schedule.specs.declared.schedule.Entry.{Entry}
 use Rattle.pg_schedule.specs.declared.schedule.EntryAct.{EntryAct}
 use Rattle.pg_schedule.specs.declared.schedule.EntryAct.TheVariants as held
-use Rattle.pg_schedule.specs.declared.schedule.Span.{Span}
 use Rattle.pg_schedule.specs.declared.schedule.ScheduleAct.{ScheduleAct}
 use Rattle.pg_schedule.specs.declared.schedule.ScheduleAct.TheVariants as lent
 use Rattle.pg_schedule.specs.Schedule.{Act, step, crash, Line, ScheduleTable}
 
 abbrev pub IsNumber : ℕ → Type 0
 IsNumber n = n < 2 ^ 32
+
+abbrev pub AreNumbers : List ℕ → Type 0
+AreNumbers [] = Unit {0}
+AreNumbers (p ∷ ps) = IsNumber p × AreNumbers ps
 
 abbrev pub act_held : List ℕ → EntryAct → Act
 act_held ps (held.Step e) = step e
@@ -41,6 +44,15 @@ IsChoice (Some p) = IsNumber p
 abbrev pub IsEventOfNumbers : Event → Type 0
 IsEventOfNumbers e = IsNumber e.thread × IsChoice e.choice
 
+abbrev pub IsActOfNumbers : Act → Type 0
+IsActOfNumbers (step e) = IsEventOfNumbers e
+IsActOfNumbers (crash ps) = AreNumbers ps
+
+-- all threads and positions are below 2^32
+abbrev pub HasNumbers : ScheduleTable → Type 0
+HasNumbers [] = Unit {0}
+HasNumbers (l ∷ ls) = IsActOfNumbers l.act × HasNumbers ls
+
 -- its positions are there
 abbrev pub IsActHeld : ℕ → EntryAct → Type 0
 IsActHeld n (held.Step e) = IsEventOfNumbers e
@@ -52,5 +64,5 @@ EachIsHeld n (e ∷ es) = IsActHeld n e.act × EachIsHeld n es
 
 pub record AreHeld (ps : List ℕ) (es : List Entry) : Type 0 where
   pub few : length es < 2 ^ 32
-  pub positions : All IsNumber ps
+  pub positions : AreNumbers ps
   pub each : EachIsHeld (length ps) es

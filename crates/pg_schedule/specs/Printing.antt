@@ -1,6 +1,6 @@
 -- The canonical text of a schedule.
 use Rattle.std.specs.Prelude.{ℕ, List, [], ◌∷◌, ◌++◌, codes, decimal, Option, Some, None}
-use Rattle.pg_schedule.specs.Schedule.{Act, step, crash, Line, ScheduleTable}
+use Rattle.pg_schedule.specs.Schedule.{Act, step, crash, ScheduleTable}
 
 abbrev pub choice_text : Option ℕ → List ℕ
 choice_text None = []

@@ -1,7 +1,6 @@
 -- The schedule that a text stands for, or its first fault.
-use Rattle.std.specs.Prelude.{ℕ, ◌+◌, ◌-◌, ◌*◌, ◌^◌, Bool, true, false, not, ◌&&◌, ◌==◌, nat_lt, if◌then◌else◌, List, [], ◌∷◌, ◌++◌, length, codes, bytes_eq, Option, Some, None, Result, Ok, Err}
+use Rattle.std.specs.Prelude.{ℕ, ◌+◌, ◌-◌, ◌*◌, ◌^◌, Bool, false, not, ◌&&◌, ◌==◌, nat_lt, if◌then◌else◌, List, [], ◌∷◌, ◌++◌, length, codes, bytes_eq, Option, Some, None, Result, Ok, Err}
 use Rattle.std.specs.Str.{all_ascii_digits}
-use Rattle.pg_machine.specs.declared.event.Event.{Event}
 use Rattle.pg_document.specs.declared.fault.DocFault.{DocFault}
 use Rattle.pg_document.specs.declared.fault.DocFault.TheVariants.{Unexpected, Version}
 use Rattle.pg_schedule.specs.Words.{Piece, Words, TextLine, is_empty, lines, saying}

@@ -1,5 +1,5 @@
 -- Schedules: the steps of one execution, and the crashes that are tried along it.
-use Rattle.std.specs.Prelude.{ℕ, zero, suc, ◌+◌, List, [], ◌∷◌, Option}
+use Rattle.std.specs.Prelude.{ℕ, zero, suc, ◌+◌, List, [], ◌∷◌}
 use Rattle.pg_machine.specs.declared.event.Event.{Event}
 
 -- A step of a thread, or a crash, with the position of the memory at which it finds each location.

@@ -34,9 +34,12 @@ pub record Words : Type 0 where
   pub left : List Piece
   pub end : ℕ
 
+abbrev pub has_bytes : Piece → Bool
+has_bytes p = not (is_empty p.text)
+
 -- blanks stand between words, and at a line's ends
 abbrev pub words : ℕ → List ℕ → Words
-words at line = record { left = filter (λ p. not (is_empty p.text)) (pieces is_blank at line); end = at + length line }
+words at line = record { left = filter has_bytes (pieces is_blank at line); end = at + length line }
 
 -- a line of a text, by its number from 1 on
 pub record TextLine : Type 0 where

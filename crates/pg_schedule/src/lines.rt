@@ -48,7 +48,6 @@ impl<'a> Lines<'a> {
     }
 
     /// The next line, which is taken.
-    #[tactic(auto)]
     pub fn next(&mut self) -> Option<Line<'a>>
         ensures { MatchOption result (self.old ≡ [])
             (λ l. self.old ≡ record { number = l.number; words = l.words } ∷ self.new) }

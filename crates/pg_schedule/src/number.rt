@@ -17,7 +17,12 @@ pub fn number_of(text: &[u8]) -> Option<u32>
 fn are_digits(text: &[u8]) -> bool
     ensures { result ≡ all_ascii_digits text.now }
 {
-    text.iter().all(|byte| byte.is_ascii_digit())
+    for byte in text {
+        if !byte.is_ascii_digit() {
+            return false;
+        }
+    }
+    true
 }
 
 /// The value of digits, where it fits 32 bits.

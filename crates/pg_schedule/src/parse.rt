@@ -1,9 +1,9 @@
 //! Reading schedules.
 
-ghost use Rattle.std.specs.Prelude.{◌≡◌, ◌≢◌, ◌+◌, ◌^◌, ◌<◌, [], length, MatchResult, OnOk, All};
+ghost use Rattle.std.specs.Prelude.{◌≡◌, ◌≢◌, ◌+◌, ◌^◌, ◌<◌, [], length, MatchResult, IfOk, OnOk};
 ghost use Rattle.pg_schedule.specs.Schedule.{step, crash};
 ghost use Rattle.pg_schedule.specs.Words.{saying};
-ghost use Rattle.pg_schedule.specs.Held.{IsNumber};
+ghost use Rattle.pg_schedule.specs.Held.{AreNumbers, IsChoice, IsEventOfNumbers};
 ghost use Rattle.pg_schedule.specs.Reading as read;
 
 use crate::lines::{Line, Lines};
@@ -57,7 +57,11 @@ fn read_acts(alloc: Global, lines: &mut Lines<'_>) -> Result<Schedule, DocFault>
 
 /// Adds the act of a line. The positions of a crash are gathered first.
 #[tactic(auto, unfolding(crate::specs::Reading::act))]
-fn read_act(line: &mut Line<'_>, positions: &mut Vec<u32>, into: &mut Schedule) -> Result<(), DocFault>
+fn read_act(
+    line: &mut Line<'_>,
+    positions: &mut Vec<u32>,
+    into: &mut Schedule,
+) -> Result<(), DocFault>
     requires { length into.old + 1 < 2 ^ 32 }
     ensures { MatchResult result (λ _. read.added line.old.number into.old (read.act line.old.words) ≡ Ok into.new)
         (λ e. e ≢ DocFault.NoMemory → read.act line.old.words ≡ Err e) }
@@ -76,7 +80,8 @@ fn read_act(line: &mut Line<'_>, positions: &mut Vec<u32>, into: &mut Schedule) 
 /// A step of a thread, and the position that it chooses, if it chooses one.
 #[tactic(auto, unfolding(crate::specs::Reading::step_line))]
 fn read_step(words: &mut Words<'_>) -> Result<Event, DocFault>
-    ensures { MatchResult result (λ e. read.step_line words.old ≡ Ok (step e, words.new)) (λ e. read.step_line words.old ≡ Err e) }
+    ensures numbers { IfOk result IsEventOfNumbers }
+    ensures line { MatchResult result (λ e. read.step_line words.old ≡ Ok (step e, words.new)) (λ e. read.step_line words.old ≡ Err e) }
 {
     words.keyword(b"step")?;
     let thread = words.number()?;
@@ -86,7 +91,8 @@ fn read_step(words: &mut Words<'_>) -> Result<Event, DocFault>
 
 #[tactic(auto, unfolding(crate::specs::Reading::choice))]
 fn read_choice(words: &mut Words<'_>) -> Result<Option<u32>, DocFault>
-    ensures { MatchResult result (λ c. read.choice words.old ≡ Ok (c, words.new)) (λ e. read.choice words.old ≡ Err e) }
+    ensures number { IfOk result IsChoice }
+    ensures words { MatchResult result (λ c. read.choice words.old ≡ Ok (c, words.new)) (λ e. read.choice words.old ≡ Err e) }
 {
     if words.is_empty() {
         return Ok(None);
@@ -104,7 +110,7 @@ fn read_crash(words: &mut Words<'_>, into: &mut Vec<u32>) -> Result<(), DocFault
     ensures line { MatchResult result (λ _. read.crash_line words.old ≡ Ok (crash into.new.items, words.new))
         (λ e. e ≢ DocFault.NoMemory → read.crash_line words.old ≡ Err e) }
     ensures few { OnOk result (length into.new.items < 2 ^ 32) }
-    ensures each { OnOk result (All IsNumber into.new.items) }
+    ensures each { OnOk result (AreNumbers into.new.items) }
 {
     words.keyword(b"crash")?;
     words.keyword(b"at")?;
@@ -118,7 +124,7 @@ fn read_positions(words: &mut Words<'_>, into: &mut Vec<u32>) -> Result<(), DocF
     ensures line { MatchResult result (λ _. read.numbers words.old.left words.old.end ≡ Ok (into.new.items, words.new))
         (λ e. e ≢ DocFault.NoMemory → read.numbers words.old.left words.old.end ≡ Err e) }
     ensures few { OnOk result (length into.new.items < 2 ^ 32) }
-    ensures each { OnOk result (All IsNumber into.new.items) }
+    ensures each { OnOk result (AreNumbers into.new.items) }
 {
     'positions: while let Some(word) = words.next() {
         into.push(word.number()?)?;

@@ -1,8 +1,8 @@
 //! Schedules, as they are kept.
 
-ghost use Rattle.std.specs.Prelude.{◌≡◌, ◌+◌, ◌^◌, ◌<◌, [], ◌∷◌, ◌++◌, length, All, OnOk};
+ghost use Rattle.std.specs.Prelude.{◌≡◌, ◌+◌, ◌^◌, ◌<◌, ◌≤◌, [], ◌∷◌, ◌++◌, length, slice_range, OnOk};
 ghost use Rattle.pg_schedule.specs.Schedule.{step, crash, number_at, act_at};
-ghost use Rattle.pg_schedule.specs.Held.{IsNumber, IsEventOfNumbers, act_lent, IsShort};
+ghost use Rattle.pg_schedule.specs.Held.{IsEventOfNumbers, HasNumbers, act_lent, IsShort};
 
 use pg_machine::Event;
 use std::alloc::{AllocError, Global};
@@ -70,6 +70,7 @@ impl Schedule {
     /// The number of acts.
     pub fn len(&self) -> u32
         ensures count { result ≡ length self.now }
+        ensures numbers { HasNumbers self.now }
     {
         self.entries.len() as u32
     }
@@ -88,15 +89,17 @@ impl Schedule {
         ensures act { act_lent result ≡ act_at self.now k }
         ensures short { IsShort result }
     {
-        match self.entries[k as usize].act {
+        let entry = self.entries[k as usize];
+        match entry.act {
             EntryAct::Step(event) => ScheduleAct::Step(event),
-            EntryAct::Crash(span) => ScheduleAct::Crash(&self.positions[span.from..span.from + span.count as usize]),
+            EntryAct::Crash(span) => ScheduleAct::Crash(part(&self.positions, span)),
         }
     }
 
     /// Adds a line with a step.
     pub(crate) fn push_step(&mut self, number: u32, event: Event) -> Result<(), AllocError>
-        requires { length self.old + 1 < 2 ^ 32 }
+        requires few { length self.old + 1 < 2 ^ 32 }
+        requires numbers { IsEventOfNumbers event }
         ensures { OnOk result (self.new ≡ self.old ++ record { number = number; act = step event } ∷ []) }
     {
         self.entries.push(Entry {
@@ -112,7 +115,7 @@ impl Schedule {
         requires short { length at.now < 2 ^ 32 }
         ensures { OnOk result (self.new ≡ self.old ++ record { number = number; act = crash at.now } ∷ []) }
     {
-        let from = self.positions.len();
+        let from = self.positions.as_slice().len();
         self.positions.extend_from_slice(at)?;
         self.entries.push(Entry {
             number,
@@ -123,4 +126,12 @@ impl Schedule {
         })?;
         Ok(())
     }
+}
+
+/// The positions of a crash.
+fn part(positions: &[u32], span: Span) -> &[u32]
+    requires { span.from + span.count ≤ length positions.now }
+    ensures { result.now ≡ slice_range positions.now span.from (span.from + span.count) }
+{
+    &positions[span.from..span.from + span.count as usize]
 }

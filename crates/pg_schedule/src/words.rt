@@ -1,6 +1,6 @@
 //! The words of a line.
 
-ghost use Rattle.std.specs.Prelude.{◌≡◌, ◌+◌, ◌^◌, ◌<◌, ◌≤◌, ◌∷◌, [], not, length, MatchOption, MatchResult, Ok, Err};
+ghost use Rattle.std.specs.Prelude.{◌≡◌, ◌+◌, ◌^◌, ◌<◌, ◌≤◌, ◌∷◌, [], not, length, MatchOption, MatchResult, IfOk, OnOk, Ok, Err};
 ghost use Rattle.std.specs.List.{prefix_len};
 ghost use Rattle.pg_schedule.specs.Words as spec;
 ghost use Rattle.pg_schedule.specs.Words.{piece};
@@ -20,7 +20,8 @@ pub struct Word<'a> {
 impl<'a> Word<'a> {
     /// The number that the word is, or the fault that it is none.
     pub fn number(&self) -> Result<u32, DocFault>
-        ensures { MatchResult result (λ n. read.number_in self.now.text.now ≡ Some n)
+        ensures small { IfOk result (λ n. n < 2 ^ 32) }
+        ensures value { MatchResult result (λ n. read.number_in self.now.text.now ≡ Some n)
             (λ e. (read.number_in self.now.text.now ≡ None) × (e ≡ DocFault.Unexpected self.now.place)) }
     {
         number_of(self.text).ok_or(DocFault::Unexpected(self.place))
@@ -65,9 +66,9 @@ impl<'a> Words<'a> {
     }
 
     /// The next word, which is taken.
-    #[tactic(auto)]
     pub fn next(&mut self) -> Option<Word<'a>>
-        ensures { MatchOption result ((self.old.left ≡ []) × (self.new ≡ self.old))
+        ensures few { length self.new.left < 2 ^ 32 }
+        ensures word { MatchOption result ((self.old.left ≡ []) × (self.new ≡ self.old))
             (λ w. (self.old.left ≡ piece w.place w.text.now ∷ self.new.left) × (self.new.end ≡ self.old.end)) }
     {
         let blanks = blanks_len(self.rest);
@@ -132,7 +133,7 @@ impl<'a> Words<'a> {
     /// Takes the next word, which has to be this one.
     #[tactic(auto, unfolding(crate::specs::Reading::keyword))]
     pub fn keyword(&mut self, text: &[u8]) -> Result<(), DocFault>
-        ensures few { length self.new.left < 2 ^ 32 }
+        ensures few { OnOk result (length self.new.left < 2 ^ 32) }
         ensures word { MatchResult result (λ _. read.keyword text.now self.old ≡ Ok (tt, self.new)) (λ e. read.keyword text.now self.old ≡ Err e) }
     {
         if !self.begins(text) {
@@ -145,7 +146,8 @@ impl<'a> Words<'a> {
     /// Takes the next word, which has to be a number.
     #[tactic(auto, unfolding(crate::specs::Reading::number))]
     pub fn number(&mut self) -> Result<u32, DocFault>
-        ensures { MatchResult result (λ n. read.number self.old ≡ Ok (n, self.new)) (λ e. read.number self.old ≡ Err e) }
+        ensures small { IfOk result (λ n. n < 2 ^ 32) }
+        ensures value { MatchResult result (λ n. read.number self.old ≡ Ok (n, self.new)) (λ e. read.number self.old ≡ Err e) }
     {
         match self.next() {
             Some(word) => word.number(),
