@@ -1,0 +1,5 @@
+mod Turns
+mod Statements
+mod Drafts
+pub mod Programs
+pub mod Outlines
