@@ -1,8 +1,8 @@
 -- The made outline is one, and keeps the limits of a text.
-use Rattle.std.proofs.Common.{◌≡◌, ℕ, ◌+◌, ◌==◌, ◌<◌, ◌≤◌, Bool, true, false, cond, List, [], ◌∷◌, length, map, Option, Some, None, refl, sym, ap, ap₂, subst, ◌∙◌, arith}
+use Rattle.std.proofs.Common.{◌≡◌, ℕ, ◌+◌, ◌==◌, ◌≤◌, Bool, true, false, cond, List, [], ◌∷◌, length, map, None, refl, sym, ap, ap₂, subst, ◌∙◌, arith}
 use Rattle.std.specs.List.{All, range_with_len}
 use Rattle.std.proofs.lemmas.List.{length-map}
-use Rattle.std.proofs.lemmas.List.FromFn.{length-range_with_len, length-map-range_with_len}
+use Rattle.std.proofs.lemmas.List.FromFn.{length-map-range_with_len}
 use Rattle.std.proofs.lemmas.List.Elements.{All-nil, All-cons}
 use Rattle.pg_program.specs.NameTable.{Location}
 use Rattle.pg_program.specs.Block.{block}
@@ -13,18 +13,16 @@ use Rattle.pg_assertion.specs.declared.atom.ViewAtom.TheVariants as view
 use Rattle.pg_assertion.specs.declared.atom.RawAtom.{RawAtom}
 use Rattle.pg_assertion.specs.declared.atom.CrashAtom.{CrashAtom}
 use Rattle.pg_assertion.specs.Formula.{Plain, top, atom, neg, with_atoms}
-use Rattle.pg_assertion.specs.Atom.{raw_of, RawDeclared, CrashDeclared}
+use Rattle.pg_assertion.specs.Atom.{raw_of, RawDeclared}
 use Rattle.pg_assertion_text.specs.Spelling.{IsName, AreNames, opens}
 use Rattle.pg_assertion_text.specs.Words.{is_reserved}
-use Rattle.pg_assertion_text.specs.SpellingLaws.{IsWritable, IsWritableCrash}
-use Rattle.pg_assertion_text.specs.Within.{IsWithin}
+use Rattle.pg_assertion_text.specs.SpellingLaws.{IsWritable}
 use Rattle.pg_assertion_text.specs.ReadAgain.{IsWhole}
-use Rattle.pg_program_text.specs.SpellingLaws.{WholeStmt, WholeThread}
-use Rattle.pg_program_text.specs.Measures.{nesting}
+use Rattle.pg_program_text.specs.SpellingLaws.{WholeStmt}
 use Rattle.pg_outline.specs.Outline.{OutlineTable, Draft, IsSmall, IsDraft, draft_of}
 use Rattle.pg_outline.specs.Fault.{Fault, first_of, first_in, in_formula, atom_fault, first_fault}
 use Rattle.pg_outline_text.specs.SpellingLaws.{FitsThread, IsWritableOutline}
-use Rattle.pg_made.specs.Made.{x, names, statement, statements, program, note, notes, pre, crash_formula, made_outline}
+use Rattle.pg_made.specs.Made.{x, names, statements, program, note, notes, pre, crash_formula, made_outline}
 use Rattle.pg_made.proofs.Statements.{is_whole, statements_are, not_nested, each}
 use Rattle.pg_made.proofs.Drafts.{one_outline}
 use Rattle.pg_made.proofs.Programs.{is_table, size_of, is_program}

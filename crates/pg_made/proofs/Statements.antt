@@ -1,9 +1,9 @@
 -- What stands in a statement of a made outline, and in a block of them.
-use Rattle.std.proofs.Common.{◌≡◌, ℕ, zero, suc, ◌+◌, ◌*◌, ◌%◌, ◌==◌, ◌<◌, ◌≤◌, Bool, true, false, cond, List, [], ◌∷◌, ◌++◌, length, map, Option, Some, None, option_map, max, refl, sym, ap, ap₂, subst, ◌∙◌, arith}
+use Rattle.std.proofs.Common.{◌≡◌, ℕ, ◌+◌, ◌%◌, ◌==◌, ◌<◌, ◌≤◌, Bool, true, false, cond, List, [], ◌∷◌, ◌++◌, length, map, Option, Some, None, option_map, max, refl, sym, ap, ap₂, subst, ◌∙◌, arith}
 use Rattle.std.specs.List.{All, find, list_any}
 use Rattle.std.proofs.lemmas.List.Elements.{All-nil, All-cons}
 use Rattle.pg_program.specs.declared.syntax.AuxAssign.{AuxAssign}
-use Rattle.pg_program.specs.declared.syntax.Expr.{Expr, roll-Expr, fold-roll-Expr}
+use Rattle.pg_program.specs.declared.syntax.Expr.{fold-roll-Expr}
 use Rattle.pg_program.specs.declared.syntax.Expr.TheOpen.{Value}
 use Rattle.pg_program.specs.declared.syntax.Stmt.{Stmt, out-Stmt, out-roll-Stmt}
 use Rattle.pg_program.specs.declared.syntax.Act.{Act, out-Act, roll-Act, out-roll-Act}
@@ -11,11 +11,11 @@ use Rattle.pg_program.specs.declared.syntax.Act.TheOpen.{Act-F, Stmt-F, Store, F
 use Rattle.pg_program.specs.declared.point.PointId.{PointId}
 use Rattle.pg_program.specs.NameTable.{is_foreign, is_auxiliary, scalar_name}
 use Rattle.pg_program.specs.Expr.{reads, reads_step, numbers, numbers_step}
-use Rattle.pg_program.specs.Block.{Block, done, node, block, first_in, second_in, first_list, second_list}
+use Rattle.pg_program.specs.Block.{done, node, block, first_in, second_in, first_list, second_list}
 use Rattle.pg_program.specs.Graph.{size, is_test, is_test_in}
 use Rattle.pg_program.specs.Graph as graph
 use Rattle.pg_program.specs.Fault.{Fault, foreign_register, aux_in_program, aux_twice, value_out_of_domain, expression_names, first_of, first_outside, own_registers, no_auxiliaries, distinct_targets, numbers_inside, few_names, in_thread}
-use Rattle.pg_program.specs.Words.{outside, outside_in, scalars_of, bracket_scalars, targets, numbers_of, numbers_in, bracket_numbers, groups, groups_in, locations_of, locations_in, repeated, is_wide}
+use Rattle.pg_program.specs.Words.{outside, outside_in, scalars_of, bracket_scalars, targets, numbers_in, bracket_numbers, groups_in, locations_of, locations_in, repeated, is_wide}
 use Rattle.pg_program.specs.Program.{IsStmt}
 use Rattle.pg_program.proofs.BlockLemmas.{block-nests}
 use Rattle.pg_program_text.specs.SpellingLaws.{WholeExpr, WholeAct, WholeAssignment, WholeStmt}

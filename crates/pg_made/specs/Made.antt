@@ -8,7 +8,7 @@ use Rattle.pg_program.specs.declared.syntax.Expr.TheOpen.{Value}
 use Rattle.pg_program.specs.declared.syntax.Stmt.{Stmt, roll-Stmt}
 use Rattle.pg_program.specs.declared.syntax.Act.{Act, roll-Act}
 use Rattle.pg_program.specs.declared.syntax.Act.TheOpen.{Act-F, Store, Flush}
-use Rattle.pg_program.specs.NameTable.{NameTable, Location}
+use Rattle.pg_program.specs.NameTable.{NameTable}
 use Rattle.pg_program.specs.Program.{ProgramTable}
 use Rattle.pg_assertion.specs.declared.atom.ViewAtom.{ViewAtom}
 use Rattle.pg_assertion.specs.declared.atom.ViewAtom.TheVariants as view
