@@ -1,5 +1,6 @@
 pub mod Reported
 pub mod Refusal
+pub mod Documents
 pub mod Obligations
 pub mod Placed
 pub mod Meaning

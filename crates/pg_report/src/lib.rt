@@ -1,13 +1,14 @@
 //! Reports: the texts that the program answers with, put on a sink.
 //!
-//! What the crate promises the layer above: `report_file_fault` puts the line of a file's fault (`specs/Refusal.antt`), and
-//! `report_obligations` the text of an outline's obligations (`specs/Obligations.antt`), byte for byte and one line at a time. That
-//! text has the givens and the goal of each obligation as they are to follow (`specs/Meaning.antt`). `report_judgement` puts the text of
-//! a judgement, with the true atoms of a rejection (`specs/Judged.antt`). A report answers `Write` only
-//! where the sink's count of faults rose; then, and where memory runs out, a prefix of its text at most is written, and of a single
-//! line nothing where memory runs out.
+//! What the crate promises the layer above: `report_file_fault` puts the line of a file's fault (`specs/Refusal.antt`),
+//! `report_doc_fault` that of a document's (`specs/Documents.antt`), and `report_obligations` the text of an outline's obligations
+//! (`specs/Obligations.antt`), byte for byte and one line at a time. That text has the givens and the goal of each obligation as
+//! they are to follow (`specs/Meaning.antt`). `report_judgement` puts the text of a judgement, with the true atoms of a rejection
+//! (`specs/Judged.antt`). A report answers `Write` only where the sink's count of faults rose; then, and where memory runs out, a
+//! prefix of its text at most is written, and of a single line nothing where memory runs out.
 #![tactic(auto)]
 
+mod document;
 mod fault;
 mod fresh;
 mod judged;
@@ -16,6 +17,7 @@ mod lines;
 mod obligations;
 mod refusal;
 
+pub use document::report_doc_fault;
 pub use fault::ReportFault;
 pub use judged::report_judgement;
 pub use laws::{outcomes_are_told, what_is_printed_is_meant};
