@@ -1,6 +1,6 @@
 -- An event leads to a next state or has a fault, and positions are a crash choice or have a fault. So a schedule has an answer.
-use Rattle.std.proofs.Common.{◌≡◌, ℕ, suc, ◌<◌, ◌≤◌, ◌⊎◌, ◌==◌, Bool, true, false, not, ◌&&◌, nat_le, List, [], ◌∷◌, ◌++◌, length, slice_index, slice_set, Option, Some, None, IsSome, Ok, Err, inl, inr, refl, sym, ap, subst, ◌∙◌, arith}
-use Rattle.std.proofs.lemmas.Bool.{cases_lt, cases_eq, and_from, le-leb, true≢false, false≢true, eqb-true, ne_eqb}
+use Rattle.std.proofs.Common.{◌≡◌, ℕ, suc, ◌<◌, ◌≤◌, ◌⊎◌, Bool, true, false, not, ◌&&◌, nat_le, List, [], ◌∷◌, ◌++◌, length, slice_index, slice_set, Option, Some, None, IsSome, Ok, Err, inl, inr, refl, sym, ap, subst, ◌∙◌, arith}
+use Rattle.std.proofs.lemmas.Bool.{cases_lt, cases_eq, and_from, le-leb, true≢false, false≢true}
 use Rattle.std.proofs.lemmas.List.{length_push}
 use Rattle.pg_program.specs.declared.syntax.Expr.{Expr}
 use Rattle.pg_program.specs.declared.syntax.Stmt.{Stmt}
@@ -29,7 +29,7 @@ use Rattle.pg_outline.specs.Outline.{OutlineTable}
 use Rattle.pg_schedule.specs.Schedule.{Act, step, crash, Line, ScheduleTable}
 use Rattle.pg_replay.specs.declared.fault.ReplayFault.{ReplayFault}
 use Rattle.pg_replay.specs.declared.fault.ReplayFault.TheVariants as fault
-use Rattle.pg_replay.specs.Replay.{Answer, Takes, Refuses, shown, line_text, nothing, behind, shown_at_first, Stops, GoesOn, Replays, IsReplay}
+use Rattle.pg_replay.specs.Replay.{Answer, Takes, Refuses, shown, line_text, nothing, behind, shown_at_first, Replays, IsReplay}
 use Rattle.pg_replay.proofs.Least.{IsLeast, least_below}
 
 -- ---- positions

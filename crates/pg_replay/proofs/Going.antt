@@ -2,13 +2,11 @@
 use Rattle.std.proofs.Common.{◌≡◌, ℕ, zero, suc, ◌+◌, ◌<◌, ◌≤◌, List, [], ◌∷◌, ◌++◌, length, drop, Option, None, Some, Ok, Err, inl, inr, refl, sym, ap, ap₂, subst, ◌∙◌, arith, append_assoc}
 use Rattle.std.specs.Option.{option_or}
 use Rattle.std.proofs.lemmas.List.{append-nil}
-use Rattle.std.specs.Prelude.{Result}
-use Rattle.pg_io.specs.Counts.{Rose}
 use Rattle.pg_io.specs.Written.{appended, AppendsPart}
 use Rattle.pg_machine.specs.Limits.{most_messages}
 use Rattle.pg_machine.specs.State.{State, IsWellFormed, fresh}
 use Rattle.pg_outline.specs.Outline.{OutlineTable}
-use Rattle.pg_schedule.specs.Schedule.{Act, step, crash, Line, ScheduleTable, act_at, number_at}
+use Rattle.pg_schedule.specs.Schedule.{Act, step, crash, ScheduleTable, act_at, number_at}
 use Rattle.pg_replay.specs.declared.answer.Violation.{Violation}
 use Rattle.pg_replay.specs.declared.answer.Replayed.{Replayed}
 use Rattle.pg_replay.specs.declared.fault.ReplayFault.{ReplayFault}
@@ -18,7 +16,7 @@ use Rattle.pg_replay.specs.Replay.{Answer, Takes, Refuses, shown, line_text, not
 use Rattle.pg_replay.specs.Put.{IsTraced, IsTracePart, Puts}
 use Rattle.pg_replay.specs.Parts.{ReplaysLine}
 use Rattle.pg_replay.proofs.Written.{appended-nothing, appended-twice, part_behind, done_is_part}
-use Rattle.pg_replay.proofs.Decided.{Answered, lines_answered, has_answer}
+use Rattle.pg_replay.proofs.Decided.{lines_answered, has_answer}
 
 -- ---- what is shown one after the other
 

@@ -1,5 +1,5 @@
 -- What a line shows is what its parts show.
-use Rattle.std.proofs.Common.{◌≡◌, ℕ, ◌<◌, ◌≤◌, ◌⊎◌, List, length, Option, Some, None, Ok, Err, inl, inr, refl, sym, ap, subst, ◌∙◌}
+use Rattle.std.proofs.Common.{◌≡◌, ℕ, ◌<◌, ◌⊎◌, List, length, Option, Ok, Err, inl, inr, refl, sym, ap, subst, ◌∙◌}
 use Rattle.pg_io.specs.Written.{appended, AppendsPart}
 use Rattle.pg_assertion.specs.declared.atom.CrashAtom.{CrashAtom}
 use Rattle.pg_assertion.specs.declared.atom.CrashAtom.TheVariants as crash_atom
@@ -9,9 +9,7 @@ use Rattle.pg_machine.specs.declared.event.Event.{Event}
 use Rattle.pg_machine.specs.declared.fault.StepFault.{StepFault}
 use Rattle.pg_machine.specs.declared.fault.StepFault.TheVariants as step_fault
 use Rattle.pg_machine.specs.Fault.{IsFault}
-use Rattle.pg_machine.specs.Limits.{most_messages}
-use Rattle.pg_machine.specs.State.{State, IsWellFormed}
-use Rattle.pg_machine.specs.Step.{IsStep}
+use Rattle.pg_machine.specs.State.{State}
 use Rattle.pg_views.specs.declared.fault.CrashFault.{CrashFault}
 use Rattle.pg_views.specs.declared.fault.CrashFault.TheVariants as crash_fault
 use Rattle.pg_views.specs.Fault.{IsCrashFault}
@@ -25,7 +23,7 @@ use Rattle.pg_replay.specs.declared.fault.ReplayFault.TheVariants as fault
 use Rattle.pg_replay.specs.declared.moves.Moves.{Moves}
 use Rattle.pg_replay.specs.Violation.{state_violation, crash_violation}
 use Rattle.pg_replay.specs.Trace.{moves, step_text, crash_text}
-use Rattle.pg_replay.specs.Replay.{Answer, Takes, Refuses, joined, shown, line_text}
+use Rattle.pg_replay.specs.Replay.{Answer, Takes, Refuses, joined}
 use Rattle.pg_replay.specs.Parts.{Shows, ReplaysLine}
 
 pub step_shown : (o : OutlineTable) (p : ProgramTable) (n : ℕ) (e : Event) (found : Replayed) (s next : State) (m : Moves) (r : Answer) (old new : Option (List ℕ)) (before now : ℕ)

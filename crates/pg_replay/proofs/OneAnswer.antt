@@ -1,5 +1,5 @@
 -- A schedule has one answer on an outline, and one trace.
-use Rattle.std.proofs.Common.{◌≡◌, ℕ, ◌⊎◌, List, [], ◌∷◌, ◌++◌, Option, Some, None, Err, inl, inr, refl, sym, ap, ap₂, subst, ◌∙◌, rules}
+use Rattle.std.proofs.Common.{◌≡◌, ℕ, List, [], ◌∷◌, ◌++◌, Option, Some, None, Err, inl, inr, sym, ap, ap₂, subst, ◌∙◌}
 use Rattle.pg_program.specs.Program.{ProgramTable, stmt_at, steps_at}
 use Rattle.pg_program.specs.declared.syntax.Stmt.{Stmt}
 use Rattle.pg_program.specs.declared.syntax.Act as machine
@@ -13,11 +13,10 @@ use Rattle.pg_machine.specs.Step.{Left, Row, seen_by, act_of, bracket_of, bracke
 use Rattle.pg_machine.proofs.Faults.{one_fault, fault_has_no_step}
 use Rattle.pg_views.proofs.CrashFaults.{crash_fault-one, crash_fault-no_choice}
 use Rattle.pg_outline.specs.Outline.{OutlineTable}
-use Rattle.pg_schedule.specs.Schedule.{Act, step, crash, Line, ScheduleTable}
-use Rattle.pg_replay.specs.declared.answer.Replayed.{Replayed}
+use Rattle.pg_schedule.specs.Schedule.{Act, step, crash, ScheduleTable}
 use Rattle.pg_replay.specs.declared.fault.ReplayFault.{ReplayFault}
 use Rattle.pg_replay.specs.declared.fault.ReplayFault.TheVariants as fault
-use Rattle.pg_replay.specs.Replay.{Answer, Takes, Refuses, shown, line_text, behind, shown_at_first, Stops, GoesOn, Replays, IsReplay}
+use Rattle.pg_replay.specs.Replay.{Answer, Takes, Refuses, shown, line_text, behind, shown_at_first, Replays}
 use Rattle.pg_replay.specs.Laws.{AreSame, HasOneAnswer}
 
 -- ---- steps

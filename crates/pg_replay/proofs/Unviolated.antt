@@ -1,22 +1,21 @@
 -- Where an outline is safe, a replay whose lines are all taken shows no violation.
-use Rattle.std.proofs.Common.{◌≡◌, ℕ, zero, suc, ◌+◌, ◌≤◌, ◌⊎◌, cond, true, List, [], ◌∷◌, length, map, Option, Some, None, Ok, Err, inl, inr, refl, sym, ap, ap₂, subst, ◌∙◌, arith}
+use Rattle.std.proofs.Common.{◌≡◌, ℕ, zero, suc, ◌+◌, ◌≤◌, cond, List, [], ◌∷◌, length, map, Option, Some, None, Ok, Err, inl, inr, refl, sym, ap, ap₂, subst, ◌∙◌, arith}
 use Rattle.std.specs.Option.{option_or}
 use Rattle.std.specs.List.{All, range_with_len}
 use Rattle.std.proofs.lemmas.List.Elements.{All-head, All-tail}
-use Rattle.pg_program.specs.Program.{ProgramTable}
 use Rattle.pg_machine.specs.declared.event.Event.{Event}
 use Rattle.pg_machine.specs.State.{State, point_of, fresh}
 use Rattle.pg_machine.specs.Step.{IsStep}
 use Rattle.pg_views.specs.Crash.{IsCrashChoice, crash_memory}
-use Rattle.pg_views.specs.Execution.{Leads, IsStart}
-use Rattle.pg_outline.specs.Outline.{OutlineTable, note_at}
-use Rattle.pg_obligations.specs.Safe.{IsSafeIn, IsSafe}
-use Rattle.pg_schedule.specs.Schedule.{Act, step, crash, Line, ScheduleTable}
+use Rattle.pg_views.specs.Execution.{Leads}
+use Rattle.pg_outline.specs.Outline.{OutlineTable}
+use Rattle.pg_obligations.specs.Safe.{IsSafeIn}
+use Rattle.pg_schedule.specs.Schedule.{Act, step, crash, ScheduleTable}
 use Rattle.pg_replay.specs.declared.answer.Violation.{Violation}
 use Rattle.pg_replay.specs.declared.answer.Violation.TheVariants.{Assertion, Crash}
 use Rattle.pg_replay.specs.declared.answer.Replayed.{Replayed}
 use Rattle.pg_replay.specs.Violation.{assertion_violation, first_of, state_violation, crash_violation}
-use Rattle.pg_replay.specs.Replay.{Answer, Takes, shown, nothing, joined, behind, shown_at_first, Replays, IsReplay}
+use Rattle.pg_replay.specs.Replay.{Answer, Takes, shown, nothing, joined, behind, shown_at_first, Replays}
 use Rattle.pg_replay.specs.Laws.{SafeShowsNoViolation}
 
 -- the outline is safe in every state that steps lead to

@@ -1,6 +1,6 @@
 -- What a replay leaves on a sink. `old` and `new` are what the sink tells that it has written, `before` and `now` its counts of
 -- faults.
-use Rattle.std.specs.Prelude.{◌≡◌, ℕ, List, Option, Result, Ok, Err}
+use Rattle.std.specs.Prelude.{◌≡◌, ℕ, List, Option, Ok, Err}
 use Rattle.pg_io.specs.Counts.{Rose}
 use Rattle.pg_io.specs.Written.{appended, AppendsPart}
 use Rattle.pg_outline.specs.Outline.{OutlineTable}

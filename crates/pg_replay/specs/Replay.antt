@@ -1,7 +1,7 @@
 -- The replay of a schedule on an outline: the machine takes the lines one after the other, from the fresh state on. The assertions at
 -- the threads' points are tested in the fresh state, which counts as line 1, and after each step, and the crash formula of the memory of
 -- each crash line alone.
-use Rattle.std.specs.Prelude.{◌≡◌, ℕ, ◌+◌, ◌≤◌, ◌⊎◌, List, [], ◌∷◌, ◌++◌, length, Option, None, Result, Ok, Err}
+use Rattle.std.specs.Prelude.{◌≡◌, ℕ, ◌+◌, ◌≤◌, ◌⊎◌, List, [], ◌∷◌, ◌++◌, length, None, Result, Ok, Err}
 use Rattle.std.specs.Option.{option_or}
 use Rattle.pg_program.specs.Program.{ProgramTable}
 use Rattle.pg_machine.specs.declared.fault.StepFault.{StepFault}
@@ -14,7 +14,6 @@ use Rattle.pg_views.specs.Crash.{IsCrashChoice, crash_memory}
 use Rattle.pg_views.specs.Fault.{IsCrashFault}
 use Rattle.pg_outline.specs.Outline.{OutlineTable}
 use Rattle.pg_schedule.specs.Schedule.{Act, step, crash, Line, ScheduleTable}
-use Rattle.pg_replay.specs.declared.answer.Violation.{Violation}
 use Rattle.pg_replay.specs.declared.answer.Replayed.{Replayed}
 use Rattle.pg_replay.specs.declared.fault.ReplayFault.{ReplayFault}
 use Rattle.pg_replay.specs.declared.fault.ReplayFault.TheVariants as fault

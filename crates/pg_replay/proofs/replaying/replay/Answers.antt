@@ -1,5 +1,5 @@
 -- Line after line the replay goes on, up to the last line or to one that ends it.
-use Rattle.std.proofs.Common.{◌≡◌, ◌<◌, ℕ, length, Option, Ok, Err, ap, subst, ◌∙◌, arith}
+use Rattle.std.proofs.Common.{◌<◌, length, Option, Ok, Err, ap, subst, ◌∙◌, arith}
 use Rattle.std.proofs.lemmas.Result.{err_from_is_err_and}
 use Rattle.pg_program.specs.Program.{ProgramTable}
 use Rattle.pg_machine.specs.State.{IsWellFormed, fresh}

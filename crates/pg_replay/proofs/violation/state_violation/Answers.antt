@@ -1,4 +1,4 @@
-use Rattle.std.proofs.Common.{◌≡◌, ℕ, ◌+◌, ◌<◌, length, ap, arith}
+use Rattle.std.proofs.Common.{◌+◌, length, ap, arith}
 use Rattle.pg_program.specs.Program.{ProgramTable}
 use Rattle.pg_replay.specs.Violation.{assertion_violation, state_violation}
 use Rattle.pg_replay.proofs.Ranges.{first-here, first-past}
