@@ -1,7 +1,7 @@
 -- One more tree.
 use Rattle.std.proofs.Common.{◌≡◌, ℕ, zero, suc, ◌+◌, ◌-◌, ◌<◌, ◌≤◌, true, false, List, [], ◌∷◌, ◌++◌, length, Result, Ok, Err, refl, sym, ap, subst, ◌∙◌, arith}
 use Rattle.std.specs.Prelude.{codes}
-use Rattle.std.proofs.lemmas.List.{append-nil}
+use Rattle.std.proofs.lemmas.List.{append-nil, length_push}
 use Rattle.pg_region.specs.Pieces.{pieces, AreEnds}
 use Rattle.pg_region.proofs.Pieces.{pieces-push}
 use Rattle.pg_document.specs.declared.fault.DocFault.{DocFault}
@@ -12,19 +12,7 @@ use Rattle.pg_derivation.specs.Fault.{Cursor, Read, ◌>>=◌, says, obligation,
 use Rattle.pg_derivation.specs.Kept.{nodes_in, Rise}
 use Rattle.pg_derivation.specs.Read.{with_front}
 use Rattle.pg_derivation.proofs.Trees.{length-nodes_in, rise-ends}
-use Rattle.pg_derivation.proofs.Turns.{done, parts_of, regroup}
-
--- ---- trees
-
-list_ok : {A : Type 0} (front new : List A) (r : Read (List A)) (d : Cursor) → with_front front r ≡ Ok (new, d) → (xs : List A) × (r ≡ Ok (xs, d)) × (new ≡ front ++ xs)
-list_ok front new (Ok y) d h =
-    let p = parts_of (front ++ y.0, y.1) (new, d) h in
-    (y.0, ap (λ (e : Cursor). done (y.0, e)) p.1, sym p.0)
-list_ok front new (Err e) d h = absurd cc
-
-list_err : {A : Type 0} (front : List A) (r : Read (List A)) (e : DocFault) → with_front front r ≡ Err e → r ≡ Err e
-list_err front (Ok y) e h = absurd cc
-list_err front (Err d) e h = cc
+use Rattle.pg_derivation.proofs.Turns.{done, regroup, list_ok, list_err}
 
 module _ (front : List (List Node)) (turns i n : ℕ) (c : Cursor) (whole : Read (List (List Node))) (so_far : with_front front (trees (turns - i) n c) ≡ whole) where
   pub trees-no_line : (e : DocFault) → i < turns → says (codes "obligation") c ≡ true → obligation n c ≡ Err e → whole ≡ Err e
@@ -75,3 +63,20 @@ tree-kept kept kept' into into' ends ns rise is =
     let are = subst (λ (n : ℕ). AreEnds 0 ends n) (sym (length-nodes_in kept into)) (rise-ends 0 ends (length into) rise) in
     let long : length into' ≡ length (nodes_in kept into ++ ns) = sym (length-nodes_in kept' into') ∙ ap (λ (x : List Node). length x) is in
     ap (λ (x : List Node). pieces x 0 (ends ++ length into' ∷ [])) is ∙ pieces-push (nodes_in kept into) ns 0 ends (length into') are long
+
+pub rise-grown : (ends ends' : List ℕ) (m n n' : ℕ) → ends' ≡ ends ++ m ∷ [] → m ≡ n' → Rise 0 ends n → n < n' → Rise 0 ends' n'
+rise-grown ends ends' m n n' items is rise lt = rw (items, is) (rise-push 0 ends n n' rise lt)
+
+pub grown : (kept kept' : List ℕ) (into into' : List Kept) (ends ends' : List ℕ) (turns i m : ℕ) (c b d : Cursor) (whole : Read (List (List Node)))
+    → with_front (pieces (nodes_in kept into) 0 ends) (trees (turns - i) (length ends + 1) c) ≡ whole → i < turns → says (codes "obligation") c ≡ true → obligation (length ends + 1) c ≡ Ok b
+    → with_front (nodes_in kept into) (nodes (length b.rest) b) ≡ Ok (nodes_in kept' into', d) → Rise 0 ends (length into) → ends' ≡ ends ++ m ∷ [] → m ≡ length into'
+    → with_front (pieces (nodes_in kept' into') 0 ends') (trees (turns - (i + 1)) (length ends' + 1) d) ≡ whole
+grown kept kept' into into' ends ends' turns i m c b d whole so_far lt test line read rise items is =
+    let front = pieces (nodes_in kept into) 0 ends in
+    let r = list_ok (nodes_in kept into) (nodes_in kept' into') (nodes (length b.rest) b) d read in
+    let one : ends' ≡ ends ++ length into' ∷ [] = items ∙ ap (λ (n : ℕ). ends ++ n ∷ []) is in
+    let long : length ends' + 1 ≡ length ends + 1 + 1 = omega (arith, ap (λ (x : List ℕ). length x) items, length_push ends m) in
+    ap (λ (x : List ℕ). with_front (pieces (nodes_in kept' into') 0 x) (trees (turns - (i + 1)) (length ends' + 1) d)) one
+    ∙ (ap (λ (f : List (List Node)). with_front f (trees (turns - (i + 1)) (length ends' + 1) d)) (tree-kept kept kept' into into' ends r.0 rise r.2)
+    ∙ (ap (λ (k : ℕ). with_front (front ++ r.0 ∷ []) (trees (turns - (i + 1)) k d)) long
+    ∙ trees-more front turns i (length ends + 1) c whole so_far b d r.0 lt test line r.1))

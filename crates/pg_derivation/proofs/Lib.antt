@@ -5,3 +5,4 @@ pub mod Turns
 pub mod Printing
 pub mod Nodes
 pub mod Grown
+pub mod Whole

