@@ -1,5 +1,5 @@
 -- One more tree.
-use Rattle.std.proofs.Common.{◌≡◌, ℕ, zero, suc, ◌+◌, ◌-◌, ◌<◌, ◌≤◌, true, false, List, [], ◌∷◌, ◌++◌, length, Result, Ok, Err, refl, sym, ap, subst, ◌∙◌, arith}
+use Rattle.std.proofs.Common.{◌≡◌, ℕ, suc, ◌+◌, ◌-◌, ◌<◌, ◌≤◌, true, false, List, [], ◌∷◌, ◌++◌, length, Ok, Err, refl, sym, ap, subst, ◌∙◌, arith}
 use Rattle.std.specs.Prelude.{codes}
 use Rattle.std.proofs.lemmas.List.{append-nil, length_push}
 use Rattle.pg_region.specs.Pieces.{pieces, AreEnds}
@@ -8,7 +8,7 @@ use Rattle.pg_document.specs.declared.fault.DocFault.{DocFault}
 use Rattle.pg_document.specs.declared.fault.DocFault.TheVariants.{Unexpected}
 use Rattle.pg_derivation.specs.declared.kept.Kept.{Kept}
 use Rattle.pg_derivation.specs.Derivation.{Node}
-use Rattle.pg_derivation.specs.Fault.{Cursor, Read, ◌>>=◌, says, obligation, nodes, tree, trees}
+use Rattle.pg_derivation.specs.Fault.{Cursor, Read, says, obligation, nodes, tree, trees}
 use Rattle.pg_derivation.specs.Kept.{nodes_in, Rise}
 use Rattle.pg_derivation.specs.Read.{with_front}
 use Rattle.pg_derivation.proofs.Trees.{length-nodes_in, rise-ends}

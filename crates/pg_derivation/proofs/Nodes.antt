@@ -1,13 +1,12 @@
 -- A node that is appended to what is kept.
-use Rattle.std.proofs.Common.{◌≡◌, ℕ, zero, suc, ◌+◌, ◌-◌, ◌<◌, ◌≤◌, List, [], ◌∷◌, ◌++◌, length, take, drop, map, Result, Ok, Err, refl, sym, ap, subst, ◌∙◌, arith, length-append}
+use Rattle.std.proofs.Common.{◌≡◌, ℕ, ◌-◌, ◌<◌, List, [], ◌∷◌, ◌++◌, length, take, drop, Ok, refl, sym, ap, subst, ◌∙◌, arith, length-append}
 use Rattle.std.specs.Prelude.{slice_range, codes}
 use Rattle.std.specs.List.{AllByRecursion}
 use Rattle.std.proofs.lemmas.List.{take_all, drop_at, take-append-le, drop-append-le, length-drop}
-use Rattle.pg_document.specs.declared.fault.DocFault.{DocFault}
 use Rattle.pg_derivation.specs.declared.kept.Kept.{Kept}
 use Rattle.pg_derivation.specs.declared.kept.Kept.TheVariants as kept
-use Rattle.pg_derivation.specs.Derivation.{Node, split, leaf, IsNumber}
-use Rattle.pg_derivation.specs.Fault.{Cursor, Read, ◌>>=◌, keyword, space, numbers, leaf_line}
+use Rattle.pg_derivation.specs.Derivation.{Node, leaf, IsNumber}
+use Rattle.pg_derivation.specs.Fault.{Cursor, Read, keyword, space, numbers, leaf_line}
 use Rattle.pg_derivation.specs.Kept.{node_in, nodes_in, IsWithin, IsKept}
 use Rattle.pg_derivation.specs.Read.{with_front, alone}
 use Rattle.pg_derivation.proofs.Lists.{each-append}

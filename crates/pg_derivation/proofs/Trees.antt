@@ -1,5 +1,5 @@
 -- What is kept of trees, and the lines of each.
-use Rattle.std.proofs.Common.{◌≡◌, ℕ, zero, suc, ◌+◌, ◌-◌, ◌<◌, ◌≤◌, ◌^◌, List, [], ◌∷◌, ◌++◌, length, get_or, take, drop, map, refl, sym, ap, subst, ◌∙◌, arith}
+use Rattle.std.proofs.Common.{◌≡◌, ℕ, zero, suc, ◌+◌, ◌-◌, ◌<◌, ◌≤◌, ◌^◌, List, [], ◌∷◌, length, get_or, take, drop, refl, sym, ap, subst, ◌∙◌, arith}
 use Rattle.std.specs.Prelude.{slice_range}
 use Rattle.std.specs.List.{AllByRecursion}
 use Rattle.std.proofs.lemmas.List.{length-take, length-drop, take-map, drop-map, get_or-map}
@@ -7,8 +7,8 @@ use Rattle.pg_region.specs.Pieces.{pieces, AreEnds}
 use Rattle.pg_region.proofs.Pieces.{ends-le, ends-at, ends-before, length-pieces}
 use Rattle.pg_derivation.specs.declared.kept.Kept.{Kept}
 use Rattle.pg_derivation.specs.declared.kept.Kept.TheVariants as kept
-use Rattle.pg_derivation.specs.Derivation.{Node, split, leaf, TreeLine, TreeTable, DerivationTable, no_line, IsNumber, IsNode, AreNodes, AreTrees, IsTree, IsDerivation, nodes_of, trees_of, lines_from, trees_behind, numbered}
-use Rattle.pg_derivation.specs.Kept.{node_in, nodes_in, IsWithin, IsKept, tree_in, IsInTree, derivation_in, Rise, IsInDerivation}
+use Rattle.pg_derivation.specs.Derivation.{Node, TreeTable, DerivationTable, no_line, IsNumber, IsNode, AreNodes, AreTrees, IsTree, IsDerivation, nodes_of, trees_of, lines_from, trees_behind, numbered}
+use Rattle.pg_derivation.specs.Kept.{node_in, nodes_in, IsWithin, tree_in, IsInTree, derivation_in, Rise, IsInDerivation}
 use Rattle.pg_derivation.proofs.Lists.{each-drop, each-take, each-at}
 
 -- ---- lines

@@ -3,7 +3,7 @@
 -- A word ends before the next space, the next newline or the end of the text. Words have one space between them, so a fault stands at
 -- the first byte of a word that can't stand where it is, also of an empty one; at the newline where a word is missing; or at the
 -- text's length where it ends early.
-use Rattle.std.specs.Prelude.{◌≡◌, ℕ, zero, suc, ◌+◌, ◌-◌, ◌*◌, ◌^◌, Bool, true, false, not, ◌&&◌, ◌||◌, ◌==◌, nat_le, nat_lt, if◌then◌else◌, List, [], ◌∷◌, ◌++◌, length, drop, slice_index, take_while, bytes_eq, codes, Option, Some, None, Result, Ok, Err}
+use Rattle.std.specs.Prelude.{ℕ, zero, suc, ◌+◌, ◌-◌, ◌*◌, ◌^◌, Bool, true, false, not, ◌&&◌, ◌||◌, ◌==◌, nat_le, nat_lt, if◌then◌else◌, List, [], ◌∷◌, length, drop, slice_index, take_while, bytes_eq, codes, Option, Some, None, Result, Ok, Err}
 use Rattle.std.specs.List.{prefix_len}
 use Rattle.pg_document.specs.declared.fault.DocFault.{DocFault}
 use Rattle.pg_document.specs.declared.fault.DocFault.TheVariants.{Unexpected, Version}
@@ -131,8 +131,8 @@ numbers zero c = fault c
 numbers (suc n) c = do
   first ← number c
   if slice_index first.1.rest 0 == 32
-    then (numbers n (advance 1 first.1) >>= λ more. Ok (first.0 ∷ more.0, more.1))
-    else (newline first.1 >>= λ next. Ok (first.0 ∷ [], next))
+      then (numbers n (advance 1 first.1) >>= λ more. Ok (first.0 ∷ more.0, more.1))
+      else (newline first.1 >>= λ next. Ok (first.0 ∷ [], next))
 
 unfoldable pub split_line : Cursor → Read Node
 split_line c = do
@@ -163,8 +163,8 @@ nodes zero c = fault c
 nodes (suc n) c = do
   first ← node c
   if is_node first.1
-    then (nodes n first.1 >>= λ more. Ok (first.0 ∷ more.0, more.1))
-    else Ok (first.0 ∷ [], first.1)
+      then (nodes n first.1 >>= λ more. Ok (first.0 ∷ more.0, more.1))
+      else Ok (first.0 ∷ [], first.1)
 
 unfoldable pub tree : ℕ → Cursor → Read (List Node)
 tree i c = do
@@ -176,8 +176,8 @@ unfoldable pub trees : ℕ → ℕ → Cursor → Read (List (List Node))
 trees zero i c = fault c
 trees (suc n) i c =
     if says (codes "obligation") c
-      then (tree i c >>= λ first. trees n (i + 1) first.1 >>= λ more. Ok (first.0 ∷ more.0, more.1))
-      else Ok ([], c)
+    then (tree i c >>= λ first. trees n (i + 1) first.1 >>= λ more. Ok (first.0 ∷ more.0, more.1))
+    else Ok ([], c)
 
 -- nothing stands behind the line that says `end`
 unfoldable pub closing : Cursor → Result Cursor DocFault

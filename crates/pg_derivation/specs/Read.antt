@@ -1,5 +1,5 @@
 -- What a call answers that reads.
-use Rattle.std.specs.Prelude.{◌≡◌, ◌≢◌, ℕ, List, [], ◌∷◌, ◌++◌, Result, Ok, Err}
+use Rattle.std.specs.Prelude.{◌≡◌, ◌≢◌, List, [], ◌∷◌, ◌++◌, Result, Ok, Err}
 use Rattle.pg_document.specs.declared.fault.DocFault.{DocFault}
 use Rattle.pg_document.specs.declared.fault.DocFault.TheVariants.{NoMemory}
 use Rattle.pg_derivation.specs.declared.place.Place.{Place}

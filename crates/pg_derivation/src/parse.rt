@@ -12,7 +12,9 @@ ghost use Rattle.pg_derivation.specs.Read.{Reads, Adds, ReadsTrees, alone};
 use crate::derivation::Derivation;
 use crate::kept::Kept;
 use crate::place::Place;
-use crate::words::{advance, behind, fault, has_more, keyword, literal, newline, number, says, space};
+use crate::words::{
+    advance, behind, fault, has_more, keyword, literal, newline, number, says, space,
+};
 use pg_document::DocFault;
 use std::alloc::Global;
 

@@ -1,4 +1,4 @@
-use Rattle.std.proofs.Common.{sym, arith}
+use Rattle.std.proofs.Common.{arith}
 use Rattle.pg_region.proofs.Pieces.{ends-at}
 use Rattle.pg_derivation.proofs.derivation.piece.Goals as goal
 

@@ -1,10 +1,8 @@
-use Rattle.std.proofs.Common.{◌≡◌, ◌==◌, ◌∷◌, [], true, false, length, slice_index, sym, ◌∙◌, arith}
+use Rattle.std.proofs.Common.{◌≡◌, ◌∷◌, [], true, false, length, sym, ◌∙◌, arith}
 use Rattle.std.proofs.lemmas.Grind.{common_steps}
 use Rattle.std.proofs.lemmas.Result.{err_from_is_err_and, IfOk-weaker}
 use Rattle.pg_derivation.specs.Derivation.{IsNumber}
-use Rattle.pg_derivation.specs.Fault.{numbers}
 use Rattle.pg_derivation.specs.Place.{cursor}
-use Rattle.pg_derivation.specs.Read.{with_front}
 use Rattle.pg_derivation.proofs.Lists.{each-append, on_ok}
 use Rattle.pg_derivation.proofs.Turns.{number-fault, number-more, number-ends, numbers-out, further}
 use Rattle.pg_derivation.proofs.parse.numbers.Goals as goal

@@ -1,9 +1,8 @@
-use Rattle.std.proofs.Common.{◌≡◌, ◌+◌, ℕ, true, false, Result, Ok, Err, length, sym, ap, ◌∙◌, arith}
-use Rattle.std.specs.Prelude.{codes}
+use Rattle.std.proofs.Common.{◌≡◌, ◌+◌, ℕ, true, false, length, sym, ap, ◌∙◌, arith}
 use Rattle.std.proofs.lemmas.Grind.{common_steps}
 use Rattle.std.proofs.lemmas.Result.{err_from_is_err_and}
 use Rattle.pg_region.specs.Pieces.{pieces}
-use Rattle.pg_derivation.specs.Fault.{says, obligation}
+use Rattle.pg_derivation.specs.Fault.{obligation}
 use Rattle.pg_derivation.specs.Kept.{nodes_in}
 use Rattle.pg_derivation.specs.Place.{cursor}
 use Rattle.pg_derivation.proofs.Grown.{trees-no_line, trees-no_nodes, trees-last, trees-out, rise-grown, grown}
