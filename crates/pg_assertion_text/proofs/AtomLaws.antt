@@ -183,11 +183,11 @@ abbrev pub item_of : NameRef → Item
 item_of (place.Location x) = location x
 item_of (place.Scalar r) = scalar r
 
-named_matches : (names : NameTable) (t : Lexeme) (r : NameRef) → named names t ≡ Ok r → Matches names (item_of r) t
+pub named_matches : (names : NameTable) (t : Lexeme) (r : NameRef) → named names t ≡ Ok r → Matches names (item_of r) t
 named_matches names t (place.Location x) h = named_found names t (place.Location x) h
 named_matches names t (place.Scalar x) h = named_found names t (place.Scalar x) h
 
-crash_items_are : (r : NameRef) (k : ℕ) → item_of r ∷ sign s.Equal ∷ number k ∷ [] ≡ crash_items (of_name r k)
+pub crash_items_are : (r : NameRef) (k : ℕ) → item_of r ∷ sign s.Equal ∷ number k ∷ [] ≡ crash_items (of_name r k)
 crash_items_are (place.Location x) k = refl
 crash_items_are (place.Scalar r) k = refl
 

@@ -65,7 +65,7 @@ chained_whole item z join i j f c l = c.is ∙ chain_done item z join c.turns f 
 
 -- ---- tokens that end a part
 
-leaves_other : (names : NameTable) (z y : Sign) (from to : Cursor) → Stands names (sign y) from to → same_sign y z ≡ false → Leaves z from
+pub leaves_other : (names : NameTable) (z y : Sign) (from to : Cursor) → Stands names (sign y) from to → same_sign y z ≡ false → Leaves z from
 leaves_other names z y from to st differs = record { lexeme = st.lexeme; read = st.read; differs = ap (is_sign z) st.matches ∙ differs }
 
 -- ---- each rule
@@ -79,12 +79,12 @@ Claim {T} read g.formula n from f to =
     Leaves s.And to → Leaves s.Or to → Leaves s.Arrow to → (r : ℕ) → nodes f ≤ r → (k : ℕ) → r < k → (fs : List (Plain T))
     → arrows_on (disjunction (unary read n)) k fs (at from r) ≡ Ok (implied fs f, at to (r - nodes f))
 
-conj_whole : {T : Type 0} (read : Parser T) (n : ℕ) (from to : Cursor) (f : Plain T) → Claim read g.conj n from f to → Leaves s.And to
+pub conj_whole : {T : Type 0} (read : Parser T) (n : ℕ) (from to : Cursor) (f : Plain T) → Claim read g.conj n from f to → Leaves s.And to
     → (r : ℕ) → nodes f ≤ r → conjunction (unary read n) (at from r) ≡ Ok (f, at to (r - nodes f))
 unfolding conjunction
 conj_whole read n from to f claim l r room = chained_whole (unary read n) s.And both (at from r) (at to (r - nodes f)) f (claim r room) l
 
-disj_whole : {T : Type 0} (read : Parser T) (n : ℕ) (from to : Cursor) (f : Plain T) → Claim read g.disj n from f to → Leaves s.And to → Leaves s.Or to
+pub disj_whole : {T : Type 0} (read : Parser T) (n : ℕ) (from to : Cursor) (f : Plain T) → Claim read g.disj n from f to → Leaves s.And to → Leaves s.Or to
     → (r : ℕ) → nodes f ≤ r → disjunction (unary read n) (at from r) ≡ Ok (f, at to (r - nodes f))
 unfolding disjunction
 disj_whole read n from to f claim l m r room = chained_whole (conjunction (unary read n)) s.Or either (at from r) (at to (r - nodes f)) f (claim l r room) m
@@ -97,20 +97,20 @@ formula_whole read n from to f claim a o w r room = claim a o w r room (r + 1) (
 -- ---- operands
 
 -- what an operand is read by at its number of levels
-operand_of : {T : Type 0} (read : Parser T) (n : ℕ) → (below : Option (Parser (Plain T))) × (unary read n ≡ operand read below)
+pub operand_of : {T : Type 0} (read : Parser T) (n : ℕ) → (below : Option (Parser (Plain T))) × (unary read n ≡ operand read below)
 unfolding unary
 operand_of read zero = (None, refl)
 operand_of read (suc n) = (Some (unary read n), refl)
 
 -- by what its first token opens
-opened : {T : Type 0} (read : Parser T) (below : Option (Parser (Plain T))) (i : Input) (t : Lexeme) (o : Opening) → token i.cursor ≡ Ok t → start t ≡ o
+pub opened : {T : Type 0} (read : Parser T) (below : Option (Parser (Plain T))) (i : Input) (t : Lexeme) (o : Opening) → token i.cursor ≡ Ok t → start t ≡ o
     → operand read below i ≡ operand_by read below o t.place i
 unfolding operand
 opened read below i t o is begins =
     bind_value (peek i) _ t i (peek_reads i t is) ∙ ap (λ o. operand_by read below o t.place i) begins
 
 -- a node and its token, with what follows them
-counted : {B : Type 0} (names : NameTable) (item : Item) (from to : Cursor) (r : ℕ) (st : Stands names item from to) (behind : Parser B) → 0 < r
+pub counted : {B : Type 0} (names : NameTable) (item : Item) (from to : Cursor) (r : ℕ) (st : Stands names item from to) (behind : Parser B) → 0 < r
     → and_then (and_then (node st.lexeme.place (at from r)) (λ u. next)) (λ w. behind) ≡ behind (at to (r - 1))
 counted names item from to r st behind some =
     ap (λ o. and_then (and_then o (λ u. next)) (λ w. behind)) (node_reads st.lexeme.place (at from r) some)
@@ -161,7 +161,7 @@ or_reads names read n from mid behind to f h left st right l r room =
     (conj_whole read n behind to h right l (r - nodes f - 1) (omega arith)) (omega arith) in
     subst (λ k. Chained (conjunction (unary read n)) s.Or either (at from r) (either f h) (at to k)) (omega arith) more
 
-arrow_turn : {T : Type 0} (item : Parser (Plain T)) (k : ℕ) (fs : List (Plain T)) (f : Plain T) (i j : Input) → 0 < k → item i ≡ Ok (f, j)
+pub arrow_turn : {T : Type 0} (item : Parser (Plain T)) (k : ℕ) (fs : List (Plain T)) (f : Plain T) (i j : Input) → 0 < k → item i ≡ Ok (f, j)
     → arrows_on item k fs i ≡ and_then (goes_on s.Arrow j) (λ more. if more then arrows_on item (k - 1) (fs ++ f ∷ []) else pure (implied fs f))
 unfolding arrows_on
 arrow_turn item zero fs f i j some reads = absurd (omega arith)

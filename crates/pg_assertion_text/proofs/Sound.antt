@@ -58,7 +58,7 @@ chain_found names item z join Part Whole part first more whole i j h =
     bind_then (item i) _ (whole, j) h (λ left t read rest.
     chain_on_found names item z join Part Whole part more (t.room + 1) left whole i t j (first i t left (part i t left read)) rest)
 
-conjunction_found : {T : Type 0} (names : NameTable) (IsAtom : Cursor → T → Cursor → Type 0) (n : ℕ) (u : Parser (Plain T))
+pub conjunction_found : {T : Type 0} (names : NameTable) (IsAtom : Cursor → T → Cursor → Type 0) (n : ℕ) (u : Parser (Plain T))
     → ((i j : Input) (f : Plain T) → u i ≡ Ok (f, j) → Found names IsAtom g.unary n i f j)
     → (i j : Input) (f : Plain T) → conjunction u i ≡ Ok (f, j) → Found names IsAtom g.conj n i f j
 unfolding conjunction
@@ -70,7 +70,7 @@ conjunction_found names IsAtom n u part i j f h =
       room = let wr = w.room in let tr = t.room in let pr = p.room in omega arith;
     }) f i j h
 
-disjunction_found : {T : Type 0} (names : NameTable) (IsAtom : Cursor → T → Cursor → Type 0) (n : ℕ) (u : Parser (Plain T))
+pub disjunction_found : {T : Type 0} (names : NameTable) (IsAtom : Cursor → T → Cursor → Type 0) (n : ℕ) (u : Parser (Plain T))
     → ((i j : Input) (f : Plain T) → u i ≡ Ok (f, j) → Found names IsAtom g.unary n i f j)
     → (i j : Input) (f : Plain T) → disjunction u i ≡ Ok (f, j) → Found names IsAtom g.disj n i f j
 unfolding disjunction

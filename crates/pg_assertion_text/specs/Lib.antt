@@ -13,3 +13,4 @@ pub mod Parts
 pub mod SpellingLaws
 pub mod ReadAgain
 pub mod Within
+pub mod FirstFaults

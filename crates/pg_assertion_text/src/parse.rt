@@ -6,6 +6,7 @@ ghost use Rattle.pg_assertion.specs.Formula.{Plain, plain};
 ghost use Rattle.pg_assertion.specs.declared.atom.RawAtom.{RawAtom as Raw};
 ghost use Rattle.pg_assertion.specs.declared.atom.CrashAtom.{CrashAtom as Crash};
 ghost use Rattle.pg_assertion_text.specs.Atoms.{raw_atom, crash_atom, IsRaw, IsCrash};
+ghost use Rattle.pg_assertion_text.specs.FirstFaults.{BlamesFirst};
 ghost use Rattle.pg_assertion_text.specs.Parsing.{IsFormula, Answers, HasOneReading, formula_at, ReadsAt};
 
 use crate::atoms::ReadAtom;
@@ -35,8 +36,11 @@ pub fn parse_formula(
     ensures found { IfOk result (λ f. IsFormula IsRaw names.now lexer.old (plain f) lexer.new) }
     ensures only { (f : Plain Raw) (to : Cursor) → IsFormula IsRaw names.now lexer.old f to → Answers f to result lexer.new }
     ensures exact { ReadsAt (formula_at raw_atom names.now lexer.old) result lexer.new }
+    ensures first { BlamesFirst IsRaw names.now lexer.old result }
     ensures err { OnErr result (lexer.new ≡ lexer.old) }
 {
+    // No name stands twice, which the first fault of a text rests on.
+    let _locations = names.locations();
     parsed(alloc, lexer, names)
 }
 
@@ -49,8 +53,11 @@ pub fn parse_crash(
     ensures found { IfOk result (λ f. IsFormula IsCrash names.now lexer.old (plain f) lexer.new) }
     ensures only { (f : Plain Crash) (to : Cursor) → IsFormula IsCrash names.now lexer.old f to → Answers f to result lexer.new }
     ensures exact { ReadsAt (formula_at crash_atom names.now lexer.old) result lexer.new }
+    ensures first { BlamesFirst IsCrash names.now lexer.old result }
     ensures err { OnErr result (lexer.new ≡ lexer.old) }
 {
+    // No name stands twice, which the first fault of a text rests on.
+    let _locations = names.locations();
     parsed(alloc, lexer, names)
 }
 
