@@ -55,8 +55,11 @@ all-follow o budget count nodes made a =
         subst (λ (i : ℕ). Follows (entailment_of o (get_or (obligations o.program) i Fresh))) (omega arith)
         (closed-follows o budget (k + 1) c.0 made (omega arith) (omega (arith, lt)) c.1)
 
-pub accepted-proved : (o : OutlineTable) (budget count nodes : ℕ) → IsOutline o → length o.program.names.scalars ≤ most_scalars → IsAccepted o budget count nodes → IsProved o
-accepted-proved o budget count nodes made few a =
-    let follow = all-follow o budget count nodes made a in
+-- where each obligation follows, the outline is safe
+pub follow-proved : (o : OutlineTable) → IsOutline o → length o.program.names.scalars ≤ most_scalars → AllFollow o (rules_of o.program) → IsProved o
+follow-proved o made few follow =
     let safe = follow_is_safe o (rules_of o.program) made.draft.program (rules-true o.program made.draft.program few) follow in
     record { follow = follow; starts = safe.1; safe = safe.0 }
+
+pub accepted-proved : (o : OutlineTable) (budget count nodes : ℕ) → IsOutline o → length o.program.names.scalars ≤ most_scalars → IsAccepted o budget count nodes → IsProved o
+accepted-proved o budget count nodes made few a = follow-proved o made few (all-follow o budget count nodes made a)

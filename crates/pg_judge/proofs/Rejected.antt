@@ -21,8 +21,8 @@ use Rattle.pg_judge.proofs.Numbers.{are-over}
 use Rattle.pg_judge.proofs.Accepted.{is-obligation}
 
 -- the atoms of an obligation's clauses are numbered from 1 to their count
-over : (o : OutlineTable) (i : ℕ) → IsOutline o → 1 ≤ i → i ≤ length (obligations o.program) → AreOver (obligation_atoms o (obligation o i)) (obligation_clauses o (obligation o i))
-over o i made from to =
+pub clauses-over : (o : OutlineTable) (i : ℕ) → IsOutline o → 1 ≤ i → i ≤ length (obligations o.program) → AreOver (obligation_atoms o (obligation o i)) (obligation_clauses o (obligation o i))
+clauses-over o i made from to =
     let l = layout_of o in
     let e = entailment_of o (obligation o i) in
     let is = is_obligation o.program (obligation o i) (is-obligation o i from to) in
@@ -39,7 +39,7 @@ met o budget i truths made r =
     let cs = obligation_clauses o (obligation o i) in
     let n = obligation_atoms o (obligation o i) in
     subst (λ (ts : List Bool). all_true (truth_in ts) cs ≡ true) (sym r.truths_are)
-    (truths-meet n r.model cs (over o i made r.next.from r.next.to) (model-is cs r.tree r.model r.is r.meets))
+    (truths-meet n r.model cs (clauses-over o i made r.next.from r.next.to) (model-is cs r.tree r.model r.is r.meets))
 
 pub rejected-refuted : (o : OutlineTable) (budget i : ℕ) (truths : List Bool) → IsOutline o → IsRejected o budget i truths → IsRefuted o i truths
 rejected-refuted o budget i truths made r =

@@ -1,15 +1,14 @@
 //! Judging an outline: its obligations are decided one after the other, on one region.
 
-ghost use Rattle.std.specs.Prelude.{◌≡◌, ℕ, ◌+◌, ◌≤◌, [], IfOk, vec_capacity};
+ghost use Rattle.std.specs.Prelude.{◌≡◌, ◌≤◌, IfOk};
 ghost use Rattle.pg_decider.specs.Assignment.{on};
 ghost use Rattle.pg_judge.specs.Limits.{most_budget};
-ghost use Rattle.pg_outline.specs.Outline.{OutlineTable};
 ghost use Rattle.pg_layers.specs.Needs.{IsMostAtoms};
 ghost use Rattle.pg_judge.specs.Outcome.{IsOutcome, outcome_of, obligation_count};
 ghost use Rattle.pg_judge.specs.Laws.{Says};
 ghost use Rattle.pg_judge.specs.Bench.{IsReady, IsEnd, HasFewAtoms};
 
-use crate::bench::Bench;
+use crate::bench::{Bench, End};
 use crate::judgement::Judgement;
 use pg_decider::Verdict;
 use pg_obligations::Obligations;
@@ -18,15 +17,6 @@ use std::alloc::{AllocError, Global};
 
 /// The greatest budget of nodes.
 pub const MAX_BUDGET: u32 = 1_000_000;
-
-/// Where the obligations end that are closed: behind the last one, or at one that has a model, with the number of its atoms, or at
-/// one that spends the budget.
-#[derive(Clone, Copy)]
-pub enum End {
-    Behind { count: u32, nodes: u64 },
-    Met { i: u32, atoms: u32 },
-    Spent { i: u32 },
-}
 
 /// Judges an outline under a budget of nodes for each of its obligations. All memory is taken before the first one.
 pub fn check(alloc: Global, o: &Outline, budget: u32) -> Result<Judgement, AllocError>
@@ -38,7 +28,7 @@ pub fn check(alloc: Global, o: &Outline, budget: u32) -> Result<Judgement, Alloc
     let mut bench = Bench::make(alloc, o, budget)?;
     let truths = Vec::with_capacity(alloc, bench.loader.needs().atoms as usize + 1)?;
     let end = end_of(&mut bench, Obligations::of(o).count(), budget);
-    Ok(judgement_of(end, &bench, truths))
+    Ok(bench.judgement(end, truths))
 }
 
 /// Decides the obligations up to the first that is not closed.
@@ -58,29 +48,11 @@ fn end_of(bench: &mut Bench<'_>, count: u32, budget: u32) -> End
             Verdict::Model(_) => {
                 return End::Met {
                     i: i + 1,
-                    atoms: decided.atoms,
+                    atoms: decided.loaded.atoms,
                 };
             }
             Verdict::Spent => return End::Spent { i: i + 1 },
         }
     }
     End::Behind { count, nodes }
-}
-
-/// The judgement of an end. There is room for the truths of a model.
-fn judgement_of(end: End, bench: &Bench<'_>, truths: Vec<bool>) -> Judgement
-    requires few { HasFewAtoms bench.now.workspace.atoms end }
-    requires empty { truths.items ≡ [] }
-    requires room { bench.now.workspace.atoms + 1 ≤ vec_capacity truths }
-    ensures { (o : OutlineTable) (budget : ℕ) → IsEnd o budget (on bench.now.workspace.literals) end → IsOutcome o budget (outcome_of result) }
-{
-    match end {
-        End::Behind { count, nodes } => Judgement::Accepted { count, nodes },
-        End::Met { i, atoms } => {
-            let mut truths = truths;
-            bench.tell(atoms, &mut truths);
-            Judgement::Rejected { i, truths }
-        }
-        End::Spent { i } => Judgement::Spent { i },
-    }
 }

@@ -15,7 +15,7 @@ returns-in-Model-clause-end c =
     let same = c.obligations.invariant.0.outline in
     let found = on c.decide-decided.new.self.workspace.literals in
     let is = of-alike p o (c.obligations.i + 1) c.args.budget _ _ c.decide-decided.new.self.log.lines found same c.in-Model.is d.decided in
-    truths-alike o c.args.budget (c.obligations.i + 1) c.decide-decided.result.atoms found (d.atoms ∙ ap (λ (q : OutlineTable). obligation_atoms q (obligation q (c.obligations.i + 1))) same)
+    truths-alike o c.args.budget (c.obligations.i + 1) c.decide-decided.result.loaded.atoms found (d.loaded.atoms ∙ ap (λ (q : OutlineTable). obligation_atoms q (obligation q (c.obligations.i + 1))) same)
     (met-here o c.args.budget c.obligations.i c.obligations.nodes c.in-Model.field-0 c.decide-decided.new.self.log.lines found c.obligations.invariant.1 (omega (arith, c.obligations-test.true, c.requires.count)) is)
 
 pub returns-in-Model-clause-room : goal.returns-in-Model-clause-room
