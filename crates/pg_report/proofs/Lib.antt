@@ -5,5 +5,6 @@ mod Within
 mod Names
 mod Meant
 mod Appended
+mod Located
 pub mod TrueAtoms
 pub mod Told

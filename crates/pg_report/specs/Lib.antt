@@ -6,3 +6,5 @@ pub mod Placed
 pub mod Meaning
 pub mod Fresh
 pub mod Judged
+pub mod Verified
+pub mod Replayed

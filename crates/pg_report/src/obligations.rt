@@ -134,7 +134,7 @@ fn branch_letter(branch: Branch) -> &'static [u8]
 }
 
 /// Appends a point by the numbers of its thread and its own.
-fn append_point(thread: u8, point: u8, text: &mut Vec<u8>) -> Result<(), AllocError>
+pub fn append_point(thread: u8, point: u8, text: &mut Vec<u8>) -> Result<(), AllocError>
     ensures { OnOk result (text.new.items ≡ text.old.items ++ spec.point_text thread point) }
 {
     append_number(u32::from(thread), text)?;
