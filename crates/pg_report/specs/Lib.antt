@@ -6,5 +6,6 @@ pub mod Placed
 pub mod Meaning
 pub mod Fresh
 pub mod Judged
+pub mod Made
 pub mod Verified
 pub mod Replayed

@@ -13,7 +13,8 @@ ghost use Rattle.pg_report.specs.Reported.{ReportsLines};
 
 use crate::fault::ReportFault;
 use crate::lines::put_lines;
-use crate::obligations::{append_heading, append_number};
+use crate::obligations::append_heading;
+use crate::words::{append_counted, append_line};
 use pg_assertion::{Formula, Layout, Side, StepAtom, ViewAtom};
 use pg_assertion_text::print_formula;
 use pg_io::Sink;
@@ -45,20 +46,24 @@ fn judgement_text(alloc: Global, o: &Outline, judgement: &Judgement) -> Result<V
     ensures { IfOk result (λ text. text.items ≡ spec.judgement_text o.now (outcome_of judgement.now)) }
 {
     let mut text = Vec::new(alloc);
-    match judgement {
-        Judgement::Accepted { count, .. } => append_accepted(*count, &mut text)?,
-        Judgement::Rejected { i, truths } => append_rejected(o, *i, truths, &mut text)?,
-        Judgement::Spent { i } => append_named(b"spent ", o, *i, &mut text)?,
-    }
+    append_judgement(o, judgement, &mut text)?;
     Ok(text)
 }
 
-fn append_accepted(count: u32, text: &mut Vec<u8>) -> Result<(), AllocError>
-    ensures { OnOk result (text.new.items ≡ text.old.items ++ (codes "accepted " ++ (decimal count ++ codes "\n"))) }
+/// Appends the text of a judgement.
+pub fn append_judgement(
+    o: &Outline,
+    judgement: &Judgement,
+    text: &mut Vec<u8>,
+) -> Result<(), AllocError>
+    requires { spec.IsToldOf o.now (outcome_of judgement.now) }
+    ensures { OnOk result (text.new.items ≡ text.old.items ++ spec.judgement_text o.now (outcome_of judgement.now)) }
 {
-    text.extend_from_slice(b"accepted ")?;
-    append_number(count, text)?;
-    text.extend_from_slice(b"\n")
+    match judgement {
+        Judgement::Accepted { count, .. } => append_line(b"accepted ", *count, text),
+        Judgement::Rejected { i, truths } => append_rejected(o, *i, truths, text),
+        Judgement::Spent { i } => append_named(b"spent ", o, *i, text),
+    }
 }
 
 fn append_rejected(
@@ -222,7 +227,6 @@ fn side_word(side: Side) -> &'static [u8]
 fn append_value(word: &[u8], v: u8, text: &mut Vec<u8>) -> Result<(), AllocError>
     ensures { OnOk result (text.new.items ≡ text.old.items ++ (word.now ++ (decimal v ++ codes ")\n"))) }
 {
-    text.extend_from_slice(word)?;
-    append_number(u32::from(v), text)?;
+    append_counted(word, u32::from(v), text)?;
     text.extend_from_slice(b")\n")
 }

@@ -12,7 +12,7 @@ ghost use Rattle.pg_report.specs.Reported.{ReportsLines};
 use crate::fault::ReportFault;
 use crate::fresh::append_fresh;
 use crate::lines::put_lines;
-use itoa::Buffer;
+use crate::words::append_number;
 use pg_assertion::{Formula, ViewAtom};
 use pg_assertion_text::{print_crash, print_formula};
 use pg_io::Sink;
@@ -222,10 +222,4 @@ fn append_crash(label: &[u8], o: &Outline, text: &mut Vec<u8>) -> Result<(), All
     text.extend_from_slice(b"crash ")?;
     print_crash(o.crash(), o.program().names(), text)?;
     text.extend_from_slice(b"\n")
-}
-
-pub fn append_number(number: u32, text: &mut Vec<u8>) -> Result<(), AllocError>
-    ensures { OnOk result (text.new.items ≡ text.old.items ++ decimal number) }
-{
-    text.extend_from_slice(Buffer::new().format(number).as_bytes())
 }

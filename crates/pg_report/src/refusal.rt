@@ -8,6 +8,7 @@ ghost use Rattle.pg_report.specs.Reported.{Reports};
 
 use crate::fault::ReportFault;
 use crate::lines::put_line;
+use crate::words::{append_counted, append_number};
 use itoa::Buffer;
 use pg_io::Sink;
 use pg_lex::{TextFault, TextKind};
@@ -134,14 +135,6 @@ fn append_outline_fault(fault: OutlineFault, line: &mut Vec<u8>) -> Result<(), A
     }
 }
 
-/// Appends a label and a number.
-fn append_counted(label: &[u8], number: u32, line: &mut Vec<u8>) -> Result<(), AllocError>
-    ensures { OnOk result (line.new.items ≡ line.old.items ++ (label.now ++ decimal number)) }
-{
-    line.extend_from_slice(label)?;
-    append_number(number, line)
-}
-
 /// Appends a name between two labels.
 fn append_named(
     label: &[u8],
@@ -169,10 +162,4 @@ fn append_small(label: &[u8], number: u8, line: &mut Vec<u8>) -> Result<(), Allo
     ensures { OnOk result (line.new.items ≡ line.old.items ++ (label.now ++ decimal number)) }
 {
     append_counted(label, u32::from(number), line)
-}
-
-fn append_number(number: u32, line: &mut Vec<u8>) -> Result<(), AllocError>
-    ensures { OnOk result (line.new.items ≡ line.old.items ++ decimal number) }
-{
-    line.extend_from_slice(Buffer::new().format(number).as_bytes())
 }
