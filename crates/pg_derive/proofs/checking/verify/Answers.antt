@@ -31,5 +31,5 @@ returns-clause-proved c =
     let few : length o.program.names.scalars ≤ most_scalars = omega (arith, ap (λ (p : ProgramTable). length p.names.scalars) c.program.ensures.program, ap (λ (n : NameTable). length n.scalars) c.names.ensures.names, c.scalars-scalars.ensures.count, c.scalars-scalars.ensures.few) in
     verified-proved o c.args.d.now c.count-count.result c.program.ensures.made few
     (is-verified o c.args.d.now c.trees-trees.result c.count-count.result c.trees-trees.ensures.count (c.count-count.ensures ∙ ap obligation_count c.of.ensures)
-        (omega (arith, c.if-trees-count.false)) (omega (arith, c.if-count-trees.false))
-        (subst (λ (q : OutlineTable). AreFirstValid q c.args.d.now c.count-count.result) c.in_ok-desk.ensures.outline c.in_ok-check_trees-2.ensures))
+    (omega (arith, c.if-trees-count.false)) (omega (arith, c.if-count-trees.false))
+    (subst (λ (q : OutlineTable). AreFirstValid q c.args.d.now c.count-count.result) c.in_ok-desk.ensures.outline c.in_ok-check_trees-2.ensures))
