@@ -17,7 +17,7 @@ const FLUSHED: &[u8] =
     b"pierogi 1; values 2; location x = 0; location y = 0; pre !P(y,1); crash y = 1 -> x = 1; thread 1 { [!P(y,1)] x := 1; [!P(y,1) & L(x,1) & F(1,x)] flush x; [!P(x,0)] y := 1; [!P(x,0)] }";
 
 /// The load of an obligation: how many clauses and atoms it has, and how many clauses were pushed on the region by then.
-struct Load {
+struct Case {
     i: u32,
     clauses: u32,
     atoms: u32,
@@ -26,56 +26,56 @@ struct Load {
 
 /// The axioms of a side have 108 clauses, which the first load pushes for both, the rules of a store 89, and those of the flush 82. So the first pushes
 /// 216 + 82 + 115, and those behind it 2, 62, 89 + 109, 7, 56, 55, 89 + 62 and 109.
-static LOADS: [Load; 9] = [
-    Load {
+static LOADS: [Case; 9] = [
+    Case {
         i: 7,
         clauses: 413,
         atoms: 130,
         pushes: 413,
     },
-    Load {
+    Case {
         i: 2,
         clauses: 110,
         atoms: 82,
         pushes: 415,
     },
-    Load {
+    Case {
         i: 6,
         clauses: 360,
         atoms: 107,
         pushes: 477,
     },
-    Load {
+    Case {
         i: 9,
         clauses: 414,
         atoms: 128,
         pushes: 675,
     },
-    Load {
+    Case {
         i: 1,
         clauses: 115,
         atoms: 82,
         pushes: 682,
     },
-    Load {
+    Case {
         i: 8,
         clauses: 361,
         atoms: 105,
         pushes: 738,
     },
-    Load {
+    Case {
         i: 3,
         clauses: 163,
         atoms: 105,
         pushes: 793,
     },
-    Load {
+    Case {
         i: 4,
         clauses: 367,
         atoms: 107,
         pushes: 944,
     },
-    Load {
+    Case {
         i: 5,
         clauses: 414,
         atoms: 128,
@@ -84,7 +84,7 @@ static LOADS: [Load; 9] = [
 ];
 
 /// Passes where an obligation is loaded as the case says.
-fn load(o: &Outline, loader: &mut Loader<'_>, region: &mut Region, case: &Load) -> Result<(), Fail>
+fn load(o: &Outline, loader: &mut Loader<'_>, region: &mut Region, case: &Case) -> Result<(), Fail>
     requires outline { loader.old.outline ≡ o.now }
     requires laid { region.old.clauses ≡ left loader.old }
     ensures outline { OnOk result (loader.new.outline ≡ o.now) }
