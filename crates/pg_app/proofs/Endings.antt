@@ -9,20 +9,21 @@ use Rattle.pg_io.specs.Told.{IsTooLong}
 use Rattle.pg_io.specs.Written.{appended}
 use Rattle.pg_outline.specs.Outline.{OutlineTable}
 use Rattle.pg_outline_text.specs.Text.{StandsFor}
+use Rattle.pg_made.specs.Made.{made_outline}
 use Rattle.pg_judge.specs.Outcome.{Outcome, accepted, rejected, spent}
-use Rattle.pg_judge.specs.Laws.{Says}
+use Rattle.pg_judge.specs.Laws.{IsProved, Says}
 use Rattle.pg_app.specs.declared.file.Kind.TheVariants.{Outline}
 use Rattle.pg_app.specs.Line.{usage, too_long}
 use Rattle.pg_app.specs.File.{File, outline_file, limit, IsOutlineText}
-use Rattle.pg_app.specs.Command.{Command, check, obligations, command_of, files_for}
-use Rattle.pg_app.specs.Answer.{whole, IsJudged, IsListed, IsRefused, IsDone, AsOutline, OnFile, OnOutline, Answers, AnswersTo, Tells, status_of}
+use Rattle.pg_app.specs.Command.{Command, check, obligations, made, command_of, files_for}
+use Rattle.pg_app.specs.Answer.{whole, IsJudged, IsJudgement, IsMadeJudgement, IsListed, IsRefused, IsDone, AsOutline, OnFile, OnOutline, Answers, AnswersTo, Tells, status_of}
 use Rattle.pg_app.specs.Put.{Puts}
 use Rattle.pg_app.specs.Safety.{IsSafeText, Claims}
 use Rattle.pg_app.specs.Run.{statuses, IsAnswer, AreTold, AreQuiet, Reached, Writes, WritesPart, Fetches, Ends}
 use Rattle.pg_app.specs.Stops.{IsFetched, Stops}
 use Rattle.pg_app.proofs.Puts.{whole_is_part, puts_map}
 use Rattle.pg_app.proofs.Files.{on_file_map, fetched_told, on_file_claims, as_outline_claims}
-use Rattle.pg_app.proofs.Statuses.{TakesLow, low_small, judged_low, listed_low, as_outline_low, due_is_answer, due_in_range, not_usage}
+use Rattle.pg_app.proofs.Statuses.{TakesLow, low_small, judged_low, made_low, listed_low, as_outline_low, due_is_answer, due_in_range, not_usage}
 
 -- ---- the end of the call
 
@@ -66,15 +67,15 @@ module _ {told : List ℕ → Option (List ℕ)} {taken taken_now status : ℕ} 
         status old new before now puts
 
   module _ {faults faults_now : List ℕ → ℕ} (name : List ℕ) where
-    pub check_ends : (budget : ℕ) (o : OutlineTable) → IsFetched told taken taken_now (outline_file name) o → Puts (IsJudged budget o) status old new before now
+    pub check_ends : (budget : ℕ) (o : OutlineTable) → IsFetched told taken taken_now (outline_file name) o → Puts (IsJudged IsJudgement budget o) status old new before now
         → Ends (Some (check name budget)) told faults faults_now taken taken_now status old new before now
-    check_ends budget o fetched puts = record { how = inl (done_puts name (IsJudged budget) o fetched puts) }
+    check_ends budget o fetched puts = record { how = inl (done_puts name (IsJudged IsJudgement budget) o fetched puts) }
 
     pub check_stops : (budget : ℕ) → Stops told (outline_file name) (faults name) (faults_now name) taken taken_now status old new before now
         → Ends (Some (check name budget)) told faults faults_now taken taken_now status old new before now
     check_stops budget stops =
         elim stops.how [
-          | inl puts ↦ record { how = inl (stopped_puts told taken taken_now name (IsJudged budget) status old new before now puts) }
+          | inl puts ↦ record { how = inl (stopped_puts told taken taken_now name (IsJudged IsJudgement budget) status old new before now puts) }
           | inr failed ↦ record { how = inr (record { status_is = failed.status_is; rose = inl failed.rose; kept = failed.kept }) }
         ]
 
@@ -89,6 +90,12 @@ module _ {told : List ℕ → Option (List ℕ)} {taken taken_now status : ℕ} 
           | inl puts ↦ record { how = inl (stopped_puts told taken taken_now name IsListed status old new before now puts) }
           | inr failed ↦ record { how = inr (record { status_is = failed.status_is; rose = inl failed.rose; kept = failed.kept }) }
         ]
+
+-- no file is read where an outline is made
+pub made_ends : {told : List ℕ → Option (List ℕ)} {faults faults_now : List ℕ → ℕ} {taken taken_now status : ℕ} {old new : Option (List ℕ)} {before now : ℕ} (statements budget : ℕ)
+    → Puts (IsJudged (IsMadeJudgement statements) budget (made_outline statements)) status old new before now
+    → Ends (Some (made statements budget)) told faults faults_now taken taken_now status old new before now
+made_ends statements budget puts = record { how = inl puts }
 
 -- where the bytes that were fetched are refused, the call ends with that
 pub refused_stops : {A : Type 0} (r : Result A ℕ) (told : List ℕ → Option (List ℕ)) (file : File) (bytes : List ℕ) (faults faults_now taken taken_now : ℕ) (old new : Option (List ℕ)) (before now : ℕ)
@@ -110,8 +117,9 @@ module _ (told : List ℕ → Option (List ℕ)) (taken taken_now : ℕ) where
   due_defined : (command : Option Command) (s : ℕ) (text : List ℕ) → AreTold (files_for command) told → AnswersTo (Fetches told taken taken_now) command s text
       → AnswersTo (Tells told) command s text
   due_defined None s text known due = due
-  due_defined (Some (check name budget)) s text known due = on_outline_defined name (IsJudged budget) s text known due
+  due_defined (Some (check name budget)) s text known due = on_outline_defined name (IsJudged IsJudgement budget) s text known due
   due_defined (Some (obligations name)) s text known due = on_outline_defined name IsListed s text known due
+  due_defined (Some (made statements budget)) s text known due = due
 
 -- ---- what an ending says
 
@@ -240,8 +248,9 @@ module _ (told : List ℕ → Option (List ℕ)) (taken taken_now : ℕ) where
   due_long : (command : Option Command) (s : ℕ) (text : List ℕ) → AnswersTo (Fetches told taken taken_now) command s text → s ≡ 10
       → Reached told (files_for command) (λ f. RoseBy (limit f + 1) taken taken_now)
   due_long None s text due is = let e = due.0 in absurd (omega (arith, e, is))
-  due_long (Some (check name budget)) s text due is = file_long (outline_file name) (AsOutline (IsJudged budget)) (as_outline_low (IsJudged budget) (judged_low budget)) s text due is
+  due_long (Some (check name budget)) s text due is = file_long (outline_file name) (AsOutline (IsJudged IsJudgement budget)) (as_outline_low (IsJudged IsJudgement budget) (judged_low IsJudgement budget)) s text due is
   due_long (Some (obligations name)) s text due is = file_long (outline_file name) (AsOutline IsListed) (as_outline_low IsListed listed_low) s text due is
+  due_long (Some (made statements budget)) s text due is = let small = low_small s (made_low statements budget s text due) in absurd (omega (arith, small, is))
 
 pub ends_long : {told : List ℕ → Option (List ℕ)} {faults faults_now : List ℕ → ℕ} {taken taken_now status : ℕ} {old new : Option (List ℕ)} {before now : ℕ} (command : Option Command)
     → Ends command told faults faults_now taken taken_now status old new before now → status ≡ 10 → Reached told (files_for command) (λ f. RoseBy (limit f + 1) taken taken_now)
@@ -297,13 +306,18 @@ usage_written text (inr (inr short)) is_usage =
 
 -- ---- what status 0 claims
 
-outcome_safe : (o : OutlineTable) (bytes : List ℕ) (outcome : Outcome) (s : ℕ) → StandsFor bytes o → Says o outcome → s ≡ status_of outcome → s ≡ 0 → IsSafeText bytes
-outcome_safe o bytes (accepted count nodes) s stands proved e zero = record { outline = o; stands = stands; proved = proved }
-outcome_safe o bytes (rejected i truths) s stands says e zero = absurd (omega (arith, e, zero))
-outcome_safe o bytes (spent i) s stands says e zero = absurd (omega (arith, e, zero))
+outcome_proved : (o : OutlineTable) (outcome : Outcome) (s : ℕ) → Says o outcome → s ≡ status_of outcome → s ≡ 0 → IsProved o
+outcome_proved o (accepted count nodes) s proved e zero = proved
+outcome_proved o (rejected i truths) s says e zero = absurd (omega (arith, e, zero))
+outcome_proved o (spent i) s says e zero = absurd (omega (arith, e, zero))
 
-judged_safe : (budget : ℕ) (bytes : List ℕ) (s : ℕ) (text : List ℕ) → IsDone (IsJudged budget) bytes s text → s ≡ 0 → IsSafeText bytes
-judged_safe budget bytes s text done zero = outcome_safe done.outline bytes done.work.outcome s done.stands done.work.says done.work.status_is zero
+-- an outline that is judged is proved
+judged_proved : (IsText : OutlineTable → Outcome → List ℕ → Type 0) (budget : ℕ) (o : OutlineTable) (s : ℕ) (text : List ℕ) → IsJudged IsText budget o s text → s ≡ 0 → IsProved o
+judged_proved IsText budget o s text judged zero = outcome_proved o judged.outcome s judged.says judged.status_is zero
+
+judged_safe : (IsText : OutlineTable → Outcome → List ℕ → Type 0) (budget : ℕ) (bytes : List ℕ) (s : ℕ) (text : List ℕ) → IsDone (IsJudged IsText budget) bytes s text → s ≡ 0 → IsSafeText bytes
+judged_safe IsText budget bytes s text done zero =
+    record { outline = done.outline; stands = done.stands; proved = judged_proved IsText budget done.outline s text done.work zero }
 
 listed_stands : (bytes : List ℕ) (s : ℕ) (text : List ℕ) → IsDone IsListed bytes s text → s ≡ 0 → IsOutlineText bytes
 listed_stands bytes s text done zero = record { outline = done.outline; stands = done.stands }
@@ -316,8 +330,9 @@ module _ (told : List ℕ → Option (List ℕ)) (taken taken_now : ℕ) where
       on_file_claims told taken taken_now (outline_file name) (AsOutline Work) P (as_outline_claims Work P claims) s text due zero
 
   due_claims : (command : Command) (s : ℕ) (text : List ℕ) → Answers (Fetches told taken taken_now) command s text → s ≡ 0 → Claims command told
-  due_claims (check name budget) s text due zero = on_outline_claims name (IsJudged budget) IsSafeText (judged_safe budget) s text due zero
+  due_claims (check name budget) s text due zero = on_outline_claims name (IsJudged IsJudgement budget) IsSafeText (judged_safe IsJudgement budget) s text due zero
   due_claims (obligations name) s text due zero = on_outline_claims name IsListed IsOutlineText listed_stands s text due zero
+  due_claims (made statements budget) s text due zero = judged_proved (IsMadeJudgement statements) budget (made_outline statements) s text due zero
 
 pub ends_safe : {told : List ℕ → Option (List ℕ)} {faults faults_now : List ℕ → ℕ} {taken taken_now status : ℕ} {old new : Option (List ℕ)} {before now : ℕ} (command : Command)
     → Ends (Some command) told faults faults_now taken taken_now status old new before now → status ≡ 0 → Claims command told

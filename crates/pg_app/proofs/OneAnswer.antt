@@ -3,12 +3,13 @@ use Rattle.std.proofs.Common.{◌≡◌, ℕ, inl, inr, List, Option, None, Some
 use Rattle.std.specs.declared.alloc.Global.{Global}
 use Rattle.pg_outline.specs.Outline.{OutlineTable}
 use Rattle.pg_outline_text.proofs.Answered.{one_reading, no_fault_told}
+use Rattle.pg_made.specs.Made.{made_outline}
+use Rattle.pg_judge.specs.Outcome.{Outcome}
 use Rattle.pg_judge.proofs.Unique.{outcome-unique}
 use Rattle.pg_report.specs.Refusal.{refusal}
-use Rattle.pg_report.specs.Judged.{judgement_text}
 use Rattle.pg_app.specs.File.{outline_file}
-use Rattle.pg_app.specs.Command.{Command, check, obligations, command_of}
-use Rattle.pg_app.specs.Answer.{IsJudged, IsListed, IsRefusal, IsDone, AsOutline, AnswersTo, Tells, Defined, status_of}
+use Rattle.pg_app.specs.Command.{Command, check, obligations, made, command_of}
+use Rattle.pg_app.specs.Answer.{IsJudged, IsJudgement, IsMadeJudgement, IsListed, IsRefusal, IsDone, AsOutline, AnswersTo, Tells, Defined, status_of}
 use Rattle.pg_app.proofs.Files.{HasOneTaking, on_file_once}
 
 -- ---- works
@@ -17,10 +18,20 @@ use Rattle.pg_app.proofs.Files.{HasOneTaking, on_file_once}
 abbrev pub HasOneResult : (OutlineTable → ℕ → List ℕ → Type 0) → Type 0
 HasOneResult Work = (o : OutlineTable) (s t : ℕ) (a b : List ℕ) → Work o s a → Work o t b → (s ≡ t) × (a ≡ b)
 
-judged_once : (budget : ℕ) → HasOneResult (IsJudged budget)
-judged_once budget o s t a b h k =
+-- an outcome has one text
+abbrev pub HasOneText : (OutlineTable → Outcome → List ℕ → Type 0) → Type 0
+HasOneText IsText = (o : OutlineTable) (outcome : Outcome) (a b : List ℕ) → IsText o outcome a → IsText o outcome b → a ≡ b
+
+judgement_once : HasOneText IsJudgement
+judgement_once o outcome a b h k = h ∙ sym k
+
+made_judgement_once : (statements : ℕ) → HasOneText (IsMadeJudgement statements)
+made_judgement_once statements o outcome a b h k = h ∙ sym k
+
+judged_once : (IsText : OutlineTable → Outcome → List ℕ → Type 0) → HasOneText IsText → (budget : ℕ) → HasOneResult (IsJudged IsText budget)
+judged_once IsText once budget o s t a b h k =
     let e = outcome-unique o budget h.outcome k.outcome h.is k.is in
-    (h.status_is ∙ (ap status_of e ∙ sym k.status_is), h.text_is ∙ (ap (judgement_text o) e ∙ sym k.text_is))
+    (h.status_is ∙ (ap status_of e ∙ sym k.status_is), once o k.outcome a b (subst (λ (outcome : Outcome). IsText o outcome a) e h.text_is) k.text_is)
 
 listed_once : HasOneResult IsListed
 listed_once o s t a b h k = (h.status_is ∙ sym k.status_is, h.text_is ∙ sym k.text_is)
@@ -51,8 +62,10 @@ module _ (Work : OutlineTable → ℕ → List ℕ → Type 0) (once : HasOneRes
 answered_once : (told : List ℕ → Option (List ℕ)) (command : Option Command) (s t : ℕ) (a b : List ℕ) → AnswersTo (Tells told) command s a → AnswersTo (Tells told) command t b → (s ≡ t) × (a ≡ b)
 answered_once told None s t a b h k = (h.0 ∙ sym k.0, h.1 ∙ sym k.1)
 answered_once told (Some (check name budget)) s t a b h k =
-    on_file_once told (outline_file name) (AsOutline (IsJudged budget)) (read_once (IsJudged budget) (judged_once budget)) s t a b h k
+    on_file_once told (outline_file name) (AsOutline (IsJudged IsJudgement budget)) (read_once (IsJudged IsJudgement budget) (judged_once IsJudgement judgement_once budget)) s t a b h k
 answered_once told (Some (obligations name)) s t a b h k = on_file_once told (outline_file name) (AsOutline IsListed) (read_once IsListed listed_once) s t a b h k
+answered_once told (Some (made statements budget)) s t a b h k =
+    judged_once (IsMadeJudgement statements) (made_judgement_once statements) budget (made_outline statements) s t a b h k
 
 pub one_answer : (words : List (String Global)) (told : List ℕ → Option (List ℕ)) (s t : ℕ) (a b : List ℕ) → Defined words told s a → Defined words told t b → (s ≡ t) × (a ≡ b)
 one_answer words told s t a b h k = answered_once told (command_of words) s t a b h k

@@ -1,10 +1,11 @@
 -- Which statuses an answer has.
 use Rattle.std.proofs.Common.{◌≡◌, ◌≢◌, ℕ, ◌≤◌, ◌⊎◌, inl, inr, List, Option, None, Some, Contains, sym, arith, lit<}
 use Rattle.pg_outline.specs.Outline.{OutlineTable}
+use Rattle.pg_made.specs.Made.{made_outline}
 use Rattle.pg_judge.specs.Outcome.{Outcome, accepted, rejected, spent}
 use Rattle.pg_app.specs.File.{File, outline_file}
-use Rattle.pg_app.specs.Command.{Command, check, obligations}
-use Rattle.pg_app.specs.Answer.{Found, IsJudged, IsListed, AsOutline, OnFile, Answers, AnswersTo, status_of}
+use Rattle.pg_app.specs.Command.{Command, check, obligations, made}
+use Rattle.pg_app.specs.Answer.{Found, IsJudged, IsJudgement, IsMadeJudgement, IsListed, AsOutline, OnFile, Answers, AnswersTo, status_of}
 use Rattle.pg_app.specs.Run.{statuses, IsAnswer}
 
 -- those of some work, and of the refusal of a file
@@ -22,8 +23,11 @@ outcome_low (accepted count nodes) s e = inl e
 outcome_low (rejected i truths) s e = inr (inl e)
 outcome_low (spent i) s e = inr (inr (inl e))
 
-pub judged_low : (budget : ℕ) → HasLow (IsJudged budget)
-judged_low budget o s text h = outcome_low h.outcome s h.status_is
+pub judged_low : (IsText : OutlineTable → Outcome → List ℕ → Type 0) (budget : ℕ) → HasLow (IsJudged IsText budget)
+judged_low IsText budget o s text h = outcome_low h.outcome s h.status_is
+
+pub made_low : (statements budget s : ℕ) (text : List ℕ) → IsJudged (IsMadeJudgement statements) budget (made_outline statements) s text → IsLow s
+made_low statements budget s text h = judged_low (IsMadeJudgement statements) budget (made_outline statements) s text h
 
 pub listed_low : HasLow IsListed
 listed_low o s text h = inl h.status_is
@@ -41,8 +45,9 @@ on_file_status Finds file Takes low s text (inr read) = inl (low read.bytes s te
 
 pub command_status : (Finds : File → Found → Type 0) (command : Command) (s : ℕ) (text : List ℕ) → Answers Finds command s text → IsLow s ⊎ (s ≡ 10)
 command_status Finds (check name budget) s text h =
-    on_file_status Finds (outline_file name) (AsOutline (IsJudged budget)) (as_outline_low (IsJudged budget) (judged_low budget)) s text h
+    on_file_status Finds (outline_file name) (AsOutline (IsJudged IsJudgement budget)) (as_outline_low (IsJudged IsJudgement budget) (judged_low IsJudgement budget)) s text h
 command_status Finds (obligations name) s text h = on_file_status Finds (outline_file name) (AsOutline IsListed) (as_outline_low IsListed listed_low) s text h
+command_status Finds (made statements budget) s text h = inl (made_low statements budget s text h)
 
 pub low_small : (s : ℕ) → IsLow s → s ≤ 5
 low_small s (inl e) = omega (arith, e)

@@ -6,16 +6,18 @@ use Rattle.std.specs.declared.alloc.Global.{Global}
 use Rattle.pg_outline.specs.Outline.{OutlineTable}
 use Rattle.pg_outline_text.specs.Text.{StandsFor}
 use Rattle.pg_outline_text.specs.Fault.{Fault, first_fault}
+use Rattle.pg_made.specs.Made.{made_outline}
 use Rattle.pg_judge.specs.Outcome.{Outcome, accepted, rejected, spent, IsOutcome}
 use Rattle.pg_judge.specs.Laws.{Says}
 use Rattle.pg_report.specs.Refusal.{refusal}
 use Rattle.pg_report.specs.Obligations.{obligations_text}
 use Rattle.pg_report.specs.Judged.{judgement_text}
+use Rattle.pg_report.specs.Made.{made_text}
 use Rattle.pg_app.specs.declared.file.Kind.{Kind}
 use Rattle.pg_app.specs.declared.file.Kind.TheVariants.{Outline}
 use Rattle.pg_app.specs.Line.{usage, too_long}
 use Rattle.pg_app.specs.File.{File, outline_file, limit}
-use Rattle.pg_app.specs.Command.{Command, check, obligations, command_of}
+use Rattle.pg_app.specs.Command.{Command, check, obligations, made, command_of}
 
 -- ---- the work of the commands
 
@@ -24,13 +26,21 @@ status_of (accepted count nodes) = 0
 status_of (rejected i truths) = 1
 status_of (spent i) = 2
 
--- `check`: the outcome of the outline under the budget, and what it says of the outline holds
-pub record IsJudged (budget : ℕ) (o : OutlineTable) (status : ℕ) (text : List ℕ) : Type 0 where
+-- the outcome of the outline under the budget; what it says of the outline holds; and the text is one for it
+pub record IsJudged (IsText : OutlineTable → Outcome → List ℕ → Type 0) (budget : ℕ) (o : OutlineTable) (status : ℕ) (text : List ℕ) : Type 0 where
   pub outcome : Outcome
   pub is : IsOutcome o budget outcome
   pub says : Says o outcome
   pub status_is : status ≡ status_of outcome
-  pub text_is : text ≡ judgement_text o outcome
+  pub text_is : IsText o outcome text
+
+-- the text of `check`
+abbrev pub IsJudgement : OutlineTable → Outcome → List ℕ → Type 0
+IsJudgement o outcome text = text ≡ judgement_text o outcome
+
+-- and that of `made`
+abbrev pub IsMadeJudgement : ℕ → OutlineTable → Outcome → List ℕ → Type 0
+IsMadeJudgement n o outcome text = text ≡ made_text n o outcome
 
 -- `obligations`: the text of all of them
 pub record IsListed (o : OutlineTable) (status : ℕ) (text : List ℕ) : Type 0 where
@@ -89,8 +99,9 @@ OnOutline Finds name Work status text = OnFile Finds (outline_file name) (AsOutl
 
 -- the answer to a command
 abbrev pub Answers : (File → Found → Type 0) → Command → ℕ → List ℕ → Type 0
-Answers Finds (check name budget) status text = OnOutline Finds name (IsJudged budget) status text
+Answers Finds (check name budget) status text = OnOutline Finds name (IsJudged IsJudgement budget) status text
 Answers Finds (obligations name) status text = OnOutline Finds name IsListed status text
+Answers Finds (made statements budget) status text = IsJudged (IsMadeJudgement statements) budget (made_outline statements) status text
 
 -- and to words that are a command or none
 abbrev pub AnswersTo : (File → Found → Type 0) → Option Command → ℕ → List ℕ → Type 0

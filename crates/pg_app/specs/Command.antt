@@ -1,16 +1,19 @@
 -- The commands: what the words of the command line ask for, and the files that a command reads.
 use Rattle.std.specs.Prelude.{ℕ, ◌≤◌, List, [], ◌∷◌, bytes_eq, codes, Option, None, Some, option_map, option_and_then, String, string_bytes, if◌then◌else◌}
 use Rattle.std.specs.declared.alloc.Global.{Global}
+use Rattle.pg_made.specs.Limits.{most_statements}
 use Rattle.pg_judge.specs.Limits.{most_budget}
 use Rattle.pg_app.specs.declared.command.Command as code
 use Rattle.pg_app.specs.declared.command.Command.TheVariants as variant
 use Rattle.pg_app.specs.File.{File, outline_file}
 use Rattle.pg_app.specs.Number.{number_up_to}
 
--- to judge the outline in the file of this name under a budget of nodes, or to print its obligations
+-- to judge the outline in the file of this name under a budget of nodes, or to print its obligations; or to judge the made outline with so
+-- many statements in each thread
 pub data Command : Type 0 where
   check : (name : List ℕ) (budget : ℕ) → Command
   obligations : (name : List ℕ) → Command
+  made : (statements budget : ℕ) → Command
 
 -- ---- words
 
@@ -45,11 +48,22 @@ obligations_of [] = None
 obligations_of (word ∷ []) = option_map obligations (name_in (string_bytes word))
 obligations_of (word ∷ other ∷ more) = None
 
+-- `N [BUDGET]`
+abbrev pub number_and_budget : List (String Global) → Option (ℕ × ℕ)
+number_and_budget [] = None
+number_and_budget (word ∷ rest) =
+    option_and_then (λ n. option_map (λ budget. (n, budget)) (budget_in rest)) (number_up_to most_statements (string_bytes word))
+
+-- `made N [BUDGET]`
+abbrev pub made_of : List (String Global) → Option Command
+made_of words = option_map (λ said. made said.0 said.1) (number_and_budget words)
+
 -- the command that begins with this word
 abbrev pub begun : List ℕ → List (String Global) → Option Command
 begun word rest =
     if bytes_eq word (codes "check") then check_of rest
-    else (if bytes_eq word (codes "obligations") then obligations_of rest else None)
+    else (if bytes_eq word (codes "obligations") then obligations_of rest
+    else (if bytes_eq word (codes "made") then made_of rest else None))
 
 -- what the words ask for, unless they have none of these shapes
 abbrev pub command_of : List (String Global) → Option Command
@@ -60,15 +74,21 @@ command_of (word ∷ rest) = begun (string_bytes word) rest
 abbrev pub asked : code.Command → Command
 asked (variant.Check name budget) = check name.now budget
 asked (variant.Obligations name) = obligations name.now
+asked (variant.Made statements budget) = made statements budget
 
 -- a budget that may be given
 abbrev pub IsBudget : ℕ → Type 0
 IsBudget budget = (1 ≤ budget) × (budget ≤ most_budget)
 
--- that of a command is one
+-- a number of statements that may be given
+abbrev pub IsStatements : ℕ → Type 0
+IsStatements n = (1 ≤ n) × (n ≤ most_statements)
+
+-- the numbers of a command may be given
 abbrev pub HasBudget : code.Command → Type 0
 HasBudget (variant.Check name budget) = IsBudget budget
 HasBudget (variant.Obligations name) = Unit {0}
+HasBudget (variant.Made statements budget) = IsStatements statements × IsBudget budget
 
 -- ---- files
 
@@ -76,6 +96,7 @@ HasBudget (variant.Obligations name) = Unit {0}
 abbrev pub files_of : Command → List File
 files_of (check name budget) = outline_file name ∷ []
 files_of (obligations name) = outline_file name ∷ []
+files_of (made statements budget) = []
 
 abbrev pub files_for : Option Command → List File
 files_for None = []

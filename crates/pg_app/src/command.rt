@@ -5,6 +5,7 @@ ghost use Rattle.pg_app.specs.Command as spec;
 ghost use Rattle.pg_app.specs.Number.{number_up_to, read_on, up_to};
 
 use pg_judge::MAX_BUDGET;
+use pg_made::MOST_STATEMENTS;
 
 // The budget where none is given.
 const DEFAULT_BUDGET: u32 = 100_000;
@@ -16,10 +17,12 @@ pub enum Command<'a> {
     Check { name: &'a str, budget: u32 },
     /// To print the obligations of the outline in a file.
     Obligations { name: &'a str },
+    /// To judge the made outline with so many statements in each thread, under a budget of nodes.
+    Made { statements: u32, budget: u32 },
 }
 
-/// The command that the words are, if they have one of the shapes `check NAME [BUDGET]` and `obligations NAME`. A name is not empty, and
-/// a budget is a number from 1 to 1,000,000 in decimal digits without a leading zero.
+/// The command that the words are, if they have one of the shapes `check NAME [BUDGET]`, `obligations NAME` and `made N [BUDGET]`. A name
+/// is not empty, a budget is a number from 1 to 1,000,000 in decimal digits without a leading zero, and N is one from 1 to 15.
 pub fn command_of(words: &[String]) -> Option<Command<'_>>
     ensures asked { option_map spec.asked result ≡ spec.command_of words.now }
     ensures budget { IfSome result spec.HasBudget }
@@ -30,6 +33,7 @@ pub fn command_of(words: &[String]) -> Option<Command<'_>>
     match word.as_str() {
         "check" => check_of(rest),
         "obligations" => obligations_of(rest),
+        "made" => made_of(rest),
         _ => None,
     }
 }
@@ -54,6 +58,28 @@ fn obligations_of(words: &[String]) -> Option<Command<'_>>
         }),
         _ => None,
     }
+}
+
+// `made`, with what is behind it.
+fn made_of(words: &[String]) -> Option<Command<'_>>
+    ensures asked { option_map spec.asked result ≡ spec.made_of words.now }
+    ensures budget { IfSome result spec.HasBudget }
+{
+    let (statements, budget) = number_and_budget(words)?;
+    Some(Command::Made { statements, budget })
+}
+
+// A number of statements, and a budget, which may be left out.
+fn number_and_budget(words: &[String]) -> Option<(u32, u32)>
+    ensures said { result ≡ spec.number_and_budget words.now }
+    ensures within { IfSome result (λ said. spec.IsStatements said.0 × spec.IsBudget said.1) }
+{
+    let [word, rest @ ..] = words else {
+        return None;
+    };
+    let statements = number_of(word.as_str(), MOST_STATEMENTS)?;
+    let budget = budget_in(rest)?;
+    Some((statements, budget))
 }
 
 // A name and a budget, which may be left out.

@@ -4,7 +4,7 @@
 ghost use Rattle.std.specs.Prelude.{◌≡◌};
 ghost use Rattle.pg_judge.specs.Outcome.{outcome_of};
 ghost use Rattle.pg_report.specs.Judged.{IsToldOf, judgement_text};
-ghost use Rattle.pg_app.specs.Answer.{IsJudged, status_of};
+ghost use Rattle.pg_app.specs.Answer.{IsJudged, IsJudgement, status_of};
 ghost use Rattle.pg_app.specs.Command.{IsBudget};
 ghost use Rattle.pg_app.specs.Put.{Puts};
 
@@ -19,7 +19,7 @@ use std::alloc::Global;
 /// Judges an outline under a budget of nodes, and puts the text of the judgement.
 pub fn judge_outline<K: Sink>(alloc: Global, outline: &Outline, budget: u32, out: &mut K) -> u8
     requires budget { IsBudget budget }
-    ensures { Puts (IsJudged budget outline.now)
+    ensures { Puts (IsJudged IsJudgement budget outline.now)
         result (K.written out.old) (K.written out.new) (K.faults out.old) (K.faults out.new) }
 {
     outcomes_are_told();
@@ -44,8 +44,8 @@ fn put_judgement<K: Sink>(
     reported(report_judgement(alloc, outline, judgement, out), status)
 }
 
-// The status of a judgement.
-fn judgement_status(judgement: &Judgement) -> u8
+/// The status of a judgement.
+pub fn judgement_status(judgement: &Judgement) -> u8
     ensures { result ≡ status_of (outcome_of judgement.now) }
 {
     match judgement {

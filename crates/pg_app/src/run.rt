@@ -22,6 +22,7 @@ use crate::command::{Command, command_of};
 use crate::file::Kind;
 use crate::judge::judge_outline;
 use crate::line::USAGE;
+use crate::made::judge_made;
 use crate::put::{list_obligations, put_line, refuse_length, refuse_outline};
 use crate::status::{NO_COMMAND, NO_MEMORY, NOT_FETCHED};
 use pg_io::{Room, RoomFault, Sink};
@@ -110,6 +111,7 @@ fn perform<R: Room, K: Sink>(alloc: Global, command: Command<'_>, room: &mut R, 
     match command {
         Command::Check { name, budget } => check(alloc, name, budget, room, out),
         Command::Obligations { name } => obligations(alloc, name, room, out),
+        Command::Made { statements, budget } => judge_made(alloc, statements, budget, out),
     }
 }
 

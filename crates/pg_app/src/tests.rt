@@ -5,7 +5,7 @@ use std::alloc::{AllocError, Global};
 use std::fmt::Debug;
 use std::test::Fail;
 
-const USAGE: &[u8] = b"usage: check NAME [BUDGET] | obligations NAME\n";
+const USAGE: &[u8] = b"usage: check NAME [BUDGET] | obligations NAME | made N [BUDGET]\n";
 
 // Passes where what was found is what is wanted in this case.
 fn agree<T: PartialEq + Debug + Copy>(found: T, wanted: T, case: &[u8]) -> Result<(), Fail> {
@@ -279,7 +279,7 @@ struct Call {
     text: &'static [u8],
 }
 
-static CALLS: [Call; 52] = [
+static CALLS: [Call; 62] = [
     Call {
         words: &[],
         fetch: 0,
@@ -639,6 +639,76 @@ static CALLS: [Call; 52] = [
     },
     Call {
         words: &["obligations", "nothing", "5"],
+        fetch: 0,
+        put: 0,
+        status: 8,
+        text: USAGE,
+    },
+    Call {
+        words: &["made", "15"],
+        fetch: 0,
+        put: 0,
+        status: 0,
+        text: b"made 15\naccepted 544\nnodes 544\n",
+    },
+    Call {
+        words: &["made", "1"],
+        fetch: 0,
+        put: 0,
+        status: 0,
+        text: b"made 1\naccepted 12\nnodes 12\n",
+    },
+    Call {
+        words: &["made", "2", "1"],
+        fetch: 0,
+        put: 0,
+        status: 0,
+        text: b"made 2\naccepted 24\nnodes 24\n",
+    },
+    Call {
+        words: &["made", "15"],
+        fetch: 0,
+        put: 2,
+        status: 7,
+        text: b"made 15\n",
+    },
+    Call {
+        words: &["made", "16"],
+        fetch: 0,
+        put: 0,
+        status: 8,
+        text: USAGE,
+    },
+    Call {
+        words: &["made", "01"],
+        fetch: 0,
+        put: 0,
+        status: 8,
+        text: USAGE,
+    },
+    Call {
+        words: &["made", "0"],
+        fetch: 0,
+        put: 0,
+        status: 8,
+        text: USAGE,
+    },
+    Call {
+        words: &["made"],
+        fetch: 0,
+        put: 0,
+        status: 8,
+        text: USAGE,
+    },
+    Call {
+        words: &["made", "1", "0"],
+        fetch: 0,
+        put: 0,
+        status: 8,
+        text: USAGE,
+    },
+    Call {
+        words: &["made", "1", "1", "1"],
         fetch: 0,
         put: 0,
         status: 8,
