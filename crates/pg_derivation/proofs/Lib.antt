@@ -6,3 +6,6 @@ pub mod Printing
 pub mod Nodes
 pub mod Grown
 pub mod Whole
+pub mod Digits
+pub mod Spelled
+pub mod Found

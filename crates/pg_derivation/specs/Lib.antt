@@ -5,3 +5,4 @@ pub mod Kept
 pub mod Lent
 pub mod Read
 pub mod Place
+pub mod Laws
