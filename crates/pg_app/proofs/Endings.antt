@@ -15,8 +15,8 @@ use Rattle.pg_judge.specs.Laws.{IsProved, Says}
 use Rattle.pg_app.specs.declared.file.Kind.TheVariants.{Outline}
 use Rattle.pg_app.specs.Line.{usage, too_long}
 use Rattle.pg_app.specs.File.{File, outline_file, limit, IsOutlineText}
-use Rattle.pg_app.specs.Command.{Command, check, obligations, made, command_of, files_for}
-use Rattle.pg_app.specs.Answer.{whole, IsJudged, IsJudgement, IsMadeJudgement, IsListed, IsRefused, IsDone, AsOutline, OnFile, OnOutline, Answers, AnswersTo, Tells, status_of}
+use Rattle.pg_app.specs.Command.{Command, check, obligations, derive, made, command_of, files_for}
+use Rattle.pg_app.specs.Answer.{whole, IsJudged, IsJudgement, IsDerived, IsMadeJudgement, IsListed, IsRefused, IsDone, AsOutline, OnFile, OnOutline, Answers, AnswersTo, Tells, status_of}
 use Rattle.pg_app.specs.Put.{Puts}
 use Rattle.pg_app.specs.Safety.{IsSafeText, Claims}
 use Rattle.pg_app.specs.Run.{statuses, IsAnswer, AreTold, AreQuiet, Reached, Writes, WritesPart, Fetches, Ends}
@@ -91,6 +91,18 @@ module _ {told : List ℕ → Option (List ℕ)} {taken taken_now status : ℕ} 
           | inr failed ↦ record { how = inr (record { status_is = failed.status_is; rose = inl failed.rose; kept = failed.kept }) }
         ]
 
+    pub derive_ends : (budget : ℕ) (o : OutlineTable) → IsFetched told taken taken_now (outline_file name) o → Puts (IsJudged IsDerived budget o) status old new before now
+        → Ends (Some (derive name budget)) told faults faults_now taken taken_now status old new before now
+    derive_ends budget o fetched puts = record { how = inl (done_puts name (IsJudged IsDerived budget) o fetched puts) }
+
+    pub derive_stops : (budget : ℕ) → Stops told (outline_file name) (faults name) (faults_now name) taken taken_now status old new before now
+        → Ends (Some (derive name budget)) told faults faults_now taken taken_now status old new before now
+    derive_stops budget stops =
+        elim stops.how [
+          | inl puts ↦ record { how = inl (stopped_puts told taken taken_now name (IsJudged IsDerived budget) status old new before now puts) }
+          | inr failed ↦ record { how = inr (record { status_is = failed.status_is; rose = inl failed.rose; kept = failed.kept }) }
+        ]
+
 -- no file is read where an outline is made
 pub made_ends : {told : List ℕ → Option (List ℕ)} {faults faults_now : List ℕ → ℕ} {taken taken_now status : ℕ} {old new : Option (List ℕ)} {before now : ℕ} (statements budget : ℕ)
     → Puts (IsJudged (IsMadeJudgement statements) budget (made_outline statements)) status old new before now
@@ -119,6 +131,7 @@ module _ (told : List ℕ → Option (List ℕ)) (taken taken_now : ℕ) where
   due_defined None s text known due = due
   due_defined (Some (check name budget)) s text known due = on_outline_defined name (IsJudged IsJudgement budget) s text known due
   due_defined (Some (obligations name)) s text known due = on_outline_defined name IsListed s text known due
+  due_defined (Some (derive name budget)) s text known due = on_outline_defined name (IsJudged IsDerived budget) s text known due
   due_defined (Some (made statements budget)) s text known due = due
 
 -- ---- what an ending says
@@ -250,6 +263,7 @@ module _ (told : List ℕ → Option (List ℕ)) (taken taken_now : ℕ) where
   due_long None s text due is = let e = due.0 in absurd (omega (arith, e, is))
   due_long (Some (check name budget)) s text due is = file_long (outline_file name) (AsOutline (IsJudged IsJudgement budget)) (as_outline_low (IsJudged IsJudgement budget) (judged_low IsJudgement budget)) s text due is
   due_long (Some (obligations name)) s text due is = file_long (outline_file name) (AsOutline IsListed) (as_outline_low IsListed listed_low) s text due is
+  due_long (Some (derive name budget)) s text due is = file_long (outline_file name) (AsOutline (IsJudged IsDerived budget)) (as_outline_low (IsJudged IsDerived budget) (judged_low IsDerived budget)) s text due is
   due_long (Some (made statements budget)) s text due is = let small = low_small s (made_low statements budget s text due) in absurd (omega (arith, small, is))
 
 pub ends_long : {told : List ℕ → Option (List ℕ)} {faults faults_now : List ℕ → ℕ} {taken taken_now status : ℕ} {old new : Option (List ℕ)} {before now : ℕ} (command : Option Command)
@@ -332,6 +346,7 @@ module _ (told : List ℕ → Option (List ℕ)) (taken taken_now : ℕ) where
   due_claims : (command : Command) (s : ℕ) (text : List ℕ) → Answers (Fetches told taken taken_now) command s text → s ≡ 0 → Claims command told
   due_claims (check name budget) s text due zero = on_outline_claims name (IsJudged IsJudgement budget) IsSafeText (judged_safe IsJudgement budget) s text due zero
   due_claims (obligations name) s text due zero = on_outline_claims name IsListed IsOutlineText listed_stands s text due zero
+  due_claims (derive name budget) s text due zero = on_outline_claims name (IsJudged IsDerived budget) IsSafeText (judged_safe IsDerived budget) s text due zero
   due_claims (made statements budget) s text due zero = judged_proved (IsMadeJudgement statements) budget (made_outline statements) s text due zero
 
 pub ends_safe : {told : List ℕ → Option (List ℕ)} {faults faults_now : List ℕ → ℕ} {taken taken_now status : ℕ} {old new : Option (List ℕ)} {before now : ℕ} (command : Command)

@@ -1,5 +1,5 @@
 -- Answers on a file: by what is found of it, and by how its bytes are taken.
-use Rattle.std.proofs.Common.{◌≡◌, ℕ, ◌<◌, ◌≤◌, inl, inr, List, length, Option, None, Some, IfSome, IsSome, IsSomeAnd, sym, ap, subst, ◌∙◌, arith}
+use Rattle.std.proofs.Common.{◌≡◌, ℕ, ◌<◌, ◌≤◌, ◌⊎◌, inl, inr, List, length, Option, None, Some, IfSome, IsSome, IsSomeAnd, sym, ap, subst, ◌∙◌, arith}
 use Rattle.pg_io.specs.Told.{IsTold, IsTooLong}
 use Rattle.pg_outline.specs.Outline.{OutlineTable}
 use Rattle.pg_app.specs.File.{File, limit}
@@ -30,9 +30,13 @@ fetched_told told taken taken_now file some longer finds = long_told (told file.
 
 -- ---- one answer
 
+-- two answers have the same status, and the same text unless that is free
+abbrev pub AreSame : Type 0 → ℕ → ℕ → List ℕ → List ℕ → Type 0
+AreSame Free s t a b = (s ≡ t) × (Free ⊎ (a ≡ b))
+
 -- bytes are taken in one way
-abbrev pub HasOneTaking : (List ℕ → ℕ → List ℕ → Type 0) → Type 0
-HasOneTaking Takes = (bytes : List ℕ) (s t : ℕ) (a b : List ℕ) → Takes bytes s a → Takes bytes t b → (s ≡ t) × (a ≡ b)
+abbrev pub HasOneTaking : Type 0 → (List ℕ → ℕ → List ℕ → Type 0) → Type 0
+HasOneTaking Free Takes = (bytes : List ℕ) (s t : ℕ) (a b : List ℕ) → Takes bytes s a → Takes bytes t b → AreSame Free s t a b
 
 not_longer : {A : Type 0} (o : Option (List ℕ)) (bytes : List ℕ) (most : ℕ) → o ≡ Some bytes → length bytes ≤ most → IsSomeAnd o (λ all. most < length all) → A
 not_longer None bytes most e within long = absurd long
@@ -41,9 +45,9 @@ not_longer (Some all) bytes most e within long =
     let count = ap length same in
     absurd (omega (arith, count, within, long))
 
-pub on_file_once : (told : List ℕ → Option (List ℕ)) (file : File) (Takes : List ℕ → ℕ → List ℕ → Type 0) → HasOneTaking Takes → (s t : ℕ) (a b : List ℕ)
-    → OnFile (Tells told) file Takes s a → OnFile (Tells told) file Takes t b → (s ≡ t) × (a ≡ b)
-on_file_once told file Takes once s t a b (inl h) (inl k) = (h.status_is ∙ sym k.status_is, h.text_is ∙ sym k.text_is)
+pub on_file_once : {Free : Type 0} (told : List ℕ → Option (List ℕ)) (file : File) (Takes : List ℕ → ℕ → List ℕ → Type 0) → HasOneTaking Free Takes → (s t : ℕ) (a b : List ℕ)
+    → OnFile (Tells told) file Takes s a → OnFile (Tells told) file Takes t b → AreSame Free s t a b
+on_file_once told file Takes once s t a b (inl h) (inl k) = (h.status_is ∙ sym k.status_is, inr (h.text_is ∙ sym k.text_is))
 on_file_once told file Takes once s t a b (inl h) (inr k) = not_longer (told file.name) k.bytes (limit file) k.finds.0 k.finds.1 h.finds
 on_file_once told file Takes once s t a b (inr h) (inl k) = not_longer (told file.name) h.bytes (limit file) h.finds.0 h.finds.1 k.finds
 on_file_once told file Takes once s t a b (inr h) (inr k) =

@@ -2,6 +2,7 @@ mod Numbers
 mod Puts
 mod Faults
 mod Judged
+mod Derived
 mod Files
 mod Statuses
 mod Endings

@@ -1,5 +1,5 @@
--- A call has one answer: of the words, where the bytes of names are told, one status and one text at most.
-use Rattle.std.proofs.Common.{◌≡◌, ℕ, inl, inr, List, Option, None, Some, String, sym, subst, ap, ◌∙◌}
+-- A call has one answer: of the words, where the bytes of names are told, one status at most, and one text unless a derivation is asked for.
+use Rattle.std.proofs.Common.{◌≡◌, ℕ, ◌⊎◌, inl, inr, List, Option, None, Some, String, sym, subst, ap, ◌∙◌}
 use Rattle.std.specs.declared.alloc.Global.{Global}
 use Rattle.pg_outline.specs.Outline.{OutlineTable}
 use Rattle.pg_outline_text.proofs.Answered.{one_reading, no_fault_told}
@@ -8,50 +8,53 @@ use Rattle.pg_judge.specs.Outcome.{Outcome}
 use Rattle.pg_judge.proofs.Unique.{outcome-unique}
 use Rattle.pg_report.specs.Refusal.{refusal}
 use Rattle.pg_app.specs.File.{outline_file}
-use Rattle.pg_app.specs.Command.{Command, check, obligations, made, command_of}
-use Rattle.pg_app.specs.Answer.{IsJudged, IsJudgement, IsMadeJudgement, IsListed, IsRefusal, IsDone, AsOutline, AnswersTo, Tells, Defined, status_of}
-use Rattle.pg_app.proofs.Files.{HasOneTaking, on_file_once}
+use Rattle.pg_app.specs.Command.{Command, AsksForDerivation, check, obligations, derive, made, command_of}
+use Rattle.pg_app.specs.Answer.{IsJudged, IsJudgement, IsDerived, IsMadeJudgement, IsListed, IsRefusal, IsDone, AsOutline, AnswersTo, Tells, Defined, status_of}
+use Rattle.pg_app.proofs.Files.{AreSame, HasOneTaking, on_file_once}
 
 -- ---- works
 
--- work on an outline has one status and one text
-abbrev pub HasOneResult : (OutlineTable → ℕ → List ℕ → Type 0) → Type 0
-HasOneResult Work = (o : OutlineTable) (s t : ℕ) (a b : List ℕ) → Work o s a → Work o t b → (s ≡ t) × (a ≡ b)
+-- work on an outline has one status, and one text unless that is free
+abbrev pub HasOneResult : Type 0 → (OutlineTable → ℕ → List ℕ → Type 0) → Type 0
+HasOneResult Free Work = (o : OutlineTable) (s t : ℕ) (a b : List ℕ) → Work o s a → Work o t b → AreSame Free s t a b
 
--- an outcome has one text
-abbrev pub HasOneText : (OutlineTable → Outcome → List ℕ → Type 0) → Type 0
-HasOneText IsText = (o : OutlineTable) (outcome : Outcome) (a b : List ℕ) → IsText o outcome a → IsText o outcome b → a ≡ b
+-- an outcome has one text, unless that is free
+abbrev pub HasOneText : Type 0 → (OutlineTable → Outcome → List ℕ → Type 0) → Type 0
+HasOneText Free IsText = (o : OutlineTable) (outcome : Outcome) (a b : List ℕ) → IsText o outcome a → IsText o outcome b → Free ⊎ (a ≡ b)
 
-judgement_once : HasOneText IsJudgement
-judgement_once o outcome a b h k = h ∙ sym k
+judgement_once : HasOneText ⊥ IsJudgement
+judgement_once o outcome a b h k = inr (h ∙ sym k)
 
-made_judgement_once : (statements : ℕ) → HasOneText (IsMadeJudgement statements)
-made_judgement_once statements o outcome a b h k = h ∙ sym k
+derived_once : HasOneText (Unit {0}) IsDerived
+derived_once o outcome a b h k = inl tt
 
-judged_once : (IsText : OutlineTable → Outcome → List ℕ → Type 0) → HasOneText IsText → (budget : ℕ) → HasOneResult (IsJudged IsText budget)
+made_judgement_once : (statements : ℕ) → HasOneText ⊥ (IsMadeJudgement statements)
+made_judgement_once statements o outcome a b h k = inr (h ∙ sym k)
+
+judged_once : {Free : Type 0} (IsText : OutlineTable → Outcome → List ℕ → Type 0) → HasOneText Free IsText → (budget : ℕ) → HasOneResult Free (IsJudged IsText budget)
 judged_once IsText once budget o s t a b h k =
     let e = outcome-unique o budget h.outcome k.outcome h.is k.is in
     (h.status_is ∙ (ap status_of e ∙ sym k.status_is), once o k.outcome a b (subst (λ (outcome : Outcome). IsText o outcome a) e h.text_is) k.text_is)
 
-listed_once : HasOneResult IsListed
-listed_once o s t a b h k = (h.status_is ∙ sym k.status_is, h.text_is ∙ sym k.text_is)
+listed_once : HasOneResult ⊥ IsListed
+listed_once o s t a b h k = (h.status_is ∙ sym k.status_is, inr (h.text_is ∙ sym k.text_is))
 
-module _ (Work : OutlineTable → ℕ → List ℕ → Type 0) (once : HasOneResult Work) where
+module _ {Free : Type 0} (Work : OutlineTable → ℕ → List ℕ → Type 0) (once : HasOneResult Free Work) where
   -- a text that stands for an outline has no fault
   not_refused : {A : Type 0} (bytes : List ℕ) (s t : ℕ) (a b : List ℕ) → IsDone Work bytes s a → IsRefusal bytes t b → A
   not_refused bytes s t a b h k = let none : None ≡ Some k.fault = sym (no_fault_told bytes h.outline h.stands) ∙ k.first in absurd (cc)
 
-  both_refused : (bytes : List ℕ) (s t : ℕ) (a b : List ℕ) → IsRefusal bytes s a → IsRefusal bytes t b → (s ≡ t) × (a ≡ b)
+  both_refused : (bytes : List ℕ) (s t : ℕ) (a b : List ℕ) → IsRefusal bytes s a → IsRefusal bytes t b → AreSame Free s t a b
   both_refused bytes s t a b h k =
       let same : Some h.fault ≡ Some k.fault = sym h.first ∙ k.first in
       let fault : h.fault ≡ k.fault = cc in
-      (h.status_is ∙ sym k.status_is, h.text_is ∙ (ap refusal fault ∙ sym k.text_is))
+      (h.status_is ∙ sym k.status_is, inr (h.text_is ∙ (ap refusal fault ∙ sym k.text_is)))
 
-  both_done : (bytes : List ℕ) (s t : ℕ) (a b : List ℕ) → IsDone Work bytes s a → IsDone Work bytes t b → (s ≡ t) × (a ≡ b)
+  both_done : (bytes : List ℕ) (s t : ℕ) (a b : List ℕ) → IsDone Work bytes s a → IsDone Work bytes t b → AreSame Free s t a b
   both_done bytes s t a b h k =
       once k.outline s t a b (subst (λ (o : OutlineTable). Work o s a) (one_reading bytes h.outline k.outline h.stands k.stands) h.work) k.work
 
-  read_once : HasOneTaking (AsOutline Work)
+  read_once : HasOneTaking Free (AsOutline Work)
   read_once bytes s t a b (inl h) (inl k) = both_refused bytes s t a b h k
   read_once bytes s t a b (inl h) (inr k) = not_refused bytes t s b a k h
   read_once bytes s t a b (inr h) (inl k) = not_refused bytes s t a b h k
@@ -59,13 +62,15 @@ module _ (Work : OutlineTable → ℕ → List ℕ → Type 0) (once : HasOneRes
 
 -- ---- commands
 
-answered_once : (told : List ℕ → Option (List ℕ)) (command : Option Command) (s t : ℕ) (a b : List ℕ) → AnswersTo (Tells told) command s a → AnswersTo (Tells told) command t b → (s ≡ t) × (a ≡ b)
-answered_once told None s t a b h k = (h.0 ∙ sym k.0, h.1 ∙ sym k.1)
+answered_once : (told : List ℕ → Option (List ℕ)) (command : Option Command) (s t : ℕ) (a b : List ℕ) → AnswersTo (Tells told) command s a → AnswersTo (Tells told) command t b → AreSame (AsksForDerivation command) s t a b
+answered_once told None s t a b h k = (h.0 ∙ sym k.0, inr (h.1 ∙ sym k.1))
 answered_once told (Some (check name budget)) s t a b h k =
     on_file_once told (outline_file name) (AsOutline (IsJudged IsJudgement budget)) (read_once (IsJudged IsJudgement budget) (judged_once IsJudgement judgement_once budget)) s t a b h k
 answered_once told (Some (obligations name)) s t a b h k = on_file_once told (outline_file name) (AsOutline IsListed) (read_once IsListed listed_once) s t a b h k
+answered_once told (Some (derive name budget)) s t a b h k =
+    on_file_once told (outline_file name) (AsOutline (IsJudged IsDerived budget)) (read_once (IsJudged IsDerived budget) (judged_once IsDerived derived_once budget)) s t a b h k
 answered_once told (Some (made statements budget)) s t a b h k =
     judged_once (IsMadeJudgement statements) (made_judgement_once statements) budget (made_outline statements) s t a b h k
 
-pub one_answer : (words : List (String Global)) (told : List ℕ → Option (List ℕ)) (s t : ℕ) (a b : List ℕ) → Defined words told s a → Defined words told t b → (s ≡ t) × (a ≡ b)
+pub one_answer : (words : List (String Global)) (told : List ℕ → Option (List ℕ)) (s t : ℕ) (a b : List ℕ) → Defined words told s a → Defined words told t b → AreSame (AsksForDerivation (command_of words)) s t a b
 one_answer words told s t a b h k = answered_once told (command_of words) s t a b h k

@@ -4,8 +4,8 @@ use Rattle.pg_outline.specs.Outline.{OutlineTable}
 use Rattle.pg_made.specs.Made.{made_outline}
 use Rattle.pg_judge.specs.Outcome.{Outcome, accepted, rejected, spent}
 use Rattle.pg_app.specs.File.{File, outline_file}
-use Rattle.pg_app.specs.Command.{Command, check, obligations, made}
-use Rattle.pg_app.specs.Answer.{Found, IsJudged, IsJudgement, IsMadeJudgement, IsListed, AsOutline, OnFile, Answers, AnswersTo, status_of}
+use Rattle.pg_app.specs.Command.{Command, check, obligations, derive, made}
+use Rattle.pg_app.specs.Answer.{Found, IsJudged, IsJudgement, IsDerived, IsMadeJudgement, IsListed, AsOutline, OnFile, Answers, AnswersTo, status_of}
 use Rattle.pg_app.specs.Run.{statuses, IsAnswer}
 
 -- those of some work, and of the refusal of a file
@@ -47,6 +47,8 @@ pub command_status : (Finds : File → Found → Type 0) (command : Command) (s 
 command_status Finds (check name budget) s text h =
     on_file_status Finds (outline_file name) (AsOutline (IsJudged IsJudgement budget)) (as_outline_low (IsJudged IsJudgement budget) (judged_low IsJudgement budget)) s text h
 command_status Finds (obligations name) s text h = on_file_status Finds (outline_file name) (AsOutline IsListed) (as_outline_low IsListed listed_low) s text h
+command_status Finds (derive name budget) s text h =
+    on_file_status Finds (outline_file name) (AsOutline (IsJudged IsDerived budget)) (as_outline_low (IsJudged IsDerived budget) (judged_low IsDerived budget)) s text h
 command_status Finds (made statements budget) s text h = inl (made_low statements budget s text h)
 
 pub low_small : (s : ℕ) → IsLow s → s ≤ 5

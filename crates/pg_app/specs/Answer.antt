@@ -1,7 +1,7 @@
 -- The answers: a status and a text for each. Status 0 is that every obligation follows, or that a text was printed; 1 that an
 -- obligation does not follow; 2 that the budget was spent on one; 3 that the first file stands for no outline; 8 that the words are
 -- no command; and 10 that a file is longer than its limit.
-use Rattle.std.specs.Prelude.{◌≡◌, ℕ, ◌<◌, ◌≤◌, ◌⊎◌, List, length, Option, None, Some, IsSomeAnd, String}
+use Rattle.std.specs.Prelude.{◌≡◌, ℕ, ◌<◌, ◌≤◌, ◌⊎◌, List, [], ◌++◌, length, Option, None, Some, IsSomeAnd, String}
 use Rattle.std.specs.declared.alloc.Global.{Global}
 use Rattle.pg_outline.specs.Outline.{OutlineTable}
 use Rattle.pg_outline_text.specs.Text.{StandsFor}
@@ -9,6 +9,7 @@ use Rattle.pg_outline_text.specs.Fault.{Fault, first_fault}
 use Rattle.pg_made.specs.Made.{made_outline}
 use Rattle.pg_judge.specs.Outcome.{Outcome, accepted, rejected, spent, IsOutcome}
 use Rattle.pg_judge.specs.Laws.{Says}
+use Rattle.pg_derive.specs.Derived.{IsDerivation}
 use Rattle.pg_report.specs.Refusal.{refusal}
 use Rattle.pg_report.specs.Obligations.{obligations_text}
 use Rattle.pg_report.specs.Judged.{judgement_text}
@@ -17,7 +18,7 @@ use Rattle.pg_app.specs.declared.file.Kind.{Kind}
 use Rattle.pg_app.specs.declared.file.Kind.TheVariants.{Outline}
 use Rattle.pg_app.specs.Line.{usage, too_long}
 use Rattle.pg_app.specs.File.{File, outline_file, limit}
-use Rattle.pg_app.specs.Command.{Command, check, obligations, made, command_of}
+use Rattle.pg_app.specs.Command.{Command, check, obligations, derive, made, command_of}
 
 -- ---- the work of the commands
 
@@ -38,7 +39,19 @@ pub record IsJudged (IsText : OutlineTable → Outcome → List ℕ → Type 0) 
 abbrev pub IsJudgement : OutlineTable → Outcome → List ℕ → Type 0
 IsJudgement o outcome text = text ≡ judgement_text o outcome
 
--- and that of `made`
+-- what `derive` puts behind a derivation: the judgement of an outline that is not accepted
+abbrev pub rest_of : OutlineTable → Outcome → List ℕ
+rest_of o (accepted count nodes) = []
+rest_of o (rejected i truths) = judgement_text o (rejected i truths)
+rest_of o (spent i) = judgement_text o (spent i)
+
+-- a text of `derive`
+pub record IsDerived (o : OutlineTable) (outcome : Outcome) (text : List ℕ) : Type 0 where
+  pub derivation : List ℕ
+  pub is : IsDerivation o outcome derivation
+  pub spelled : text ≡ derivation ++ rest_of o outcome
+
+-- the text of `made`
 abbrev pub IsMadeJudgement : ℕ → OutlineTable → Outcome → List ℕ → Type 0
 IsMadeJudgement n o outcome text = text ≡ made_text n o outcome
 
@@ -101,6 +114,7 @@ OnOutline Finds name Work status text = OnFile Finds (outline_file name) (AsOutl
 abbrev pub Answers : (File → Found → Type 0) → Command → ℕ → List ℕ → Type 0
 Answers Finds (check name budget) status text = OnOutline Finds name (IsJudged IsJudgement budget) status text
 Answers Finds (obligations name) status text = OnOutline Finds name IsListed status text
+Answers Finds (derive name budget) status text = OnOutline Finds name (IsJudged IsDerived budget) status text
 Answers Finds (made statements budget) status text = IsJudged (IsMadeJudgement statements) budget (made_outline statements) status text
 
 -- and to words that are a command or none

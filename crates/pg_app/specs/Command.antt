@@ -8,11 +8,12 @@ use Rattle.pg_app.specs.declared.command.Command.TheVariants as variant
 use Rattle.pg_app.specs.File.{File, outline_file}
 use Rattle.pg_app.specs.Number.{number_up_to}
 
--- to judge the outline in the file of this name under a budget of nodes, or to print its obligations; or to judge the made outline with so
--- many statements in each thread
+-- to judge the outline in the file of this name under a budget of nodes, to print its obligations, or to judge it and write its
+-- derivation; or to judge the made outline with so many statements in each thread
 pub data Command : Type 0 where
   check : (name : List ℕ) (budget : ℕ) → Command
   obligations : (name : List ℕ) → Command
+  derive : (name : List ℕ) (budget : ℕ) → Command
   made : (statements budget : ℕ) → Command
 
 -- ---- words
@@ -48,6 +49,10 @@ obligations_of [] = None
 obligations_of (word ∷ []) = option_map obligations (name_in (string_bytes word))
 obligations_of (word ∷ other ∷ more) = None
 
+-- `derive NAME [BUDGET]`
+abbrev pub derive_of : List (String Global) → Option Command
+derive_of words = option_map (λ said. derive said.0 said.1) (name_and_budget words)
+
 -- `N [BUDGET]`
 abbrev pub number_and_budget : List (String Global) → Option (ℕ × ℕ)
 number_and_budget [] = None
@@ -63,7 +68,8 @@ abbrev pub begun : List ℕ → List (String Global) → Option Command
 begun word rest =
     if bytes_eq word (codes "check") then check_of rest
     else (if bytes_eq word (codes "obligations") then obligations_of rest
-    else (if bytes_eq word (codes "made") then made_of rest else None))
+    else (if bytes_eq word (codes "derive") then derive_of rest
+    else (if bytes_eq word (codes "made") then made_of rest else None)))
 
 -- what the words ask for, unless they have none of these shapes
 abbrev pub command_of : List (String Global) → Option Command
@@ -74,6 +80,7 @@ command_of (word ∷ rest) = begun (string_bytes word) rest
 abbrev pub asked : code.Command → Command
 asked (variant.Check name budget) = check name.now budget
 asked (variant.Obligations name) = obligations name.now
+asked (variant.Derive name budget) = derive name.now budget
 asked (variant.Made statements budget) = made statements budget
 
 -- a budget that may be given
@@ -88,7 +95,16 @@ IsStatements n = (1 ≤ n) × (n ≤ most_statements)
 abbrev pub HasBudget : code.Command → Type 0
 HasBudget (variant.Check name budget) = IsBudget budget
 HasBudget (variant.Obligations name) = Unit {0}
+HasBudget (variant.Derive name budget) = IsBudget budget
 HasBudget (variant.Made statements budget) = IsStatements statements × IsBudget budget
+
+-- the words ask for a derivation
+abbrev pub AsksForDerivation : Option Command → Type 0
+AsksForDerivation None = ⊥
+AsksForDerivation (Some (check name budget)) = ⊥
+AsksForDerivation (Some (obligations name)) = ⊥
+AsksForDerivation (Some (derive name budget)) = Unit {0}
+AsksForDerivation (Some (made statements budget)) = ⊥
 
 -- ---- files
 
@@ -96,6 +112,7 @@ HasBudget (variant.Made statements budget) = IsStatements statements × IsBudget
 abbrev pub files_of : Command → List File
 files_of (check name budget) = outline_file name ∷ []
 files_of (obligations name) = outline_file name ∷ []
+files_of (derive name budget) = outline_file name ∷ []
 files_of (made statements budget) = []
 
 abbrev pub files_for : Option Command → List File

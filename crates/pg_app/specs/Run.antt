@@ -7,7 +7,7 @@ use Rattle.pg_io.specs.Told.{IsTold, IsTooLong}
 use Rattle.pg_io.specs.Written.{appended, AppendsPart}
 use Rattle.pg_app.specs.Line.{usage}
 use Rattle.pg_app.specs.File.{File, limit, IsTextOf}
-use Rattle.pg_app.specs.Command.{Command, command_of, files_for, files_in}
+use Rattle.pg_app.specs.Command.{Command, AsksForDerivation, command_of, files_for, files_in}
 use Rattle.pg_app.specs.Answer.{Found, whole, longer, AnswersTo, Defined}
 use Rattle.pg_app.specs.Put.{Puts}
 use Rattle.pg_app.specs.Safety.{Claims}
@@ -50,10 +50,10 @@ pub record Writes (words : List (String Global)) (told : List ℕ → Option (Li
   pub defined : Defined words told status text
   pub written : new ≡ appended old text
 
--- this status and this text are the only ones that are defined
+-- one status is defined; and one text, unless the words ask for a derivation, as several lists of clauses may close a leaf
 abbrev pub HasOneAnswer : List (String Global) → (List ℕ → Option (List ℕ)) → Type 0
 HasOneAnswer words told =
-    (s t : ℕ) (a b : List ℕ) → Defined words told s a → Defined words told t b → (s ≡ t) × (a ≡ b)
+    (s t : ℕ) (a b : List ℕ) → Defined words told s a → Defined words told t b → (s ≡ t) × (AsksForDerivation (command_of words) ⊎ (a ≡ b))
 
 -- a prefix of a defined text was written
 pub record WritesPart (words : List (String Global)) (told : List ℕ → Option (List ℕ)) (old new : Option (List ℕ)) : Type 0 where

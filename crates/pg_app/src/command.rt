@@ -17,12 +17,15 @@ pub enum Command<'a> {
     Check { name: &'a str, budget: u32 },
     /// To print the obligations of the outline in a file.
     Obligations { name: &'a str },
+    /// To judge the outline in a file under a budget of nodes, and to write its derivation.
+    Derive { name: &'a str, budget: u32 },
     /// To judge the made outline with so many statements in each thread, under a budget of nodes.
     Made { statements: u32, budget: u32 },
 }
 
-/// The command that the words are, if they have one of the shapes `check NAME [BUDGET]`, `obligations NAME` and `made N [BUDGET]`. A name
-/// is not empty, a budget is a number from 1 to 1,000,000 in decimal digits without a leading zero, and N is one from 1 to 15.
+/// The command that the words are, if they have one of the shapes `check NAME [BUDGET]`, `obligations NAME`, `derive NAME [BUDGET]` and
+/// `made N [BUDGET]`. A name is not empty, a budget is a number from 1 to 1,000,000 in decimal digits without a leading zero, and N is one
+/// from 1 to 15.
 pub fn command_of(words: &[String]) -> Option<Command<'_>>
     ensures asked { option_map spec.asked result ≡ spec.command_of words.now }
     ensures budget { IfSome result spec.HasBudget }
@@ -33,6 +36,7 @@ pub fn command_of(words: &[String]) -> Option<Command<'_>>
     match word.as_str() {
         "check" => check_of(rest),
         "obligations" => obligations_of(rest),
+        "derive" => derive_of(rest),
         "made" => made_of(rest),
         _ => None,
     }
@@ -58,6 +62,15 @@ fn obligations_of(words: &[String]) -> Option<Command<'_>>
         }),
         _ => None,
     }
+}
+
+// `derive`, with what is behind it.
+fn derive_of(words: &[String]) -> Option<Command<'_>>
+    ensures asked { option_map spec.asked result ≡ spec.derive_of words.now }
+    ensures budget { IfSome result spec.HasBudget }
+{
+    let (name, budget) = name_and_budget(words)?;
+    Some(Command::Derive { name, budget })
 }
 
 // `made`, with what is behind it.

@@ -29,8 +29,8 @@ pub fn judge_outline<K: Sink>(alloc: Global, outline: &Outline, budget: u32, out
     }
 }
 
-// Puts the text of a judgement.
-fn put_judgement<K: Sink>(
+/// Puts the text of a judgement.
+pub fn put_judgement<K: Sink>(
     alloc: Global,
     outline: &Outline,
     judgement: &Judgement,

@@ -1,7 +1,8 @@
 //! A checker of proof outlines for concurrent programs on persistent memory: `check NAME [BUDGET]`
-//! judges the outline in the file NAME, `obligations NAME` prints what there is to prove of it, and
-//! `made N [BUDGET]` judges the made outline of N statements for each thread. Each writes its text to
-//! standard output, and ends with a status.
+//! judges the outline in the file NAME, `obligations NAME` prints what there is to prove of it,
+//! `derive NAME [BUDGET]` judges it and writes its derivation, and `made N [BUDGET]` judges the made
+//! outline of N statements for each thread. Each writes its text to standard output, and ends with a
+//! status.
 //!
 //! What is promised stands on `run`, the one call that the program makes over the files and
 //! standard output. A word that is not text ends the program with the status of words that are not
@@ -12,6 +13,7 @@ ghost use Rattle.std.specs.Prelude.{◌≡◌, ◌⊎◌, IfErr, Contains};
 ghost use Rattle.pg_app.specs.Run.{statuses};
 
 mod command;
+mod derive;
 mod file;
 mod judge;
 mod line;

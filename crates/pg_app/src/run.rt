@@ -19,6 +19,7 @@ ghost use Rattle.pg_app.specs.Run.{statuses, AreQuiet, AreTold, HasOneAnswer, Is
 ghost use Rattle.pg_app.specs.Stops.{IsFetched, Stops};
 
 use crate::command::{Command, command_of};
+use crate::derive::derive_outline;
 use crate::file::Kind;
 use crate::judge::judge_outline;
 use crate::line::USAGE;
@@ -111,6 +112,7 @@ fn perform<R: Room, K: Sink>(alloc: Global, command: Command<'_>, room: &mut R, 
     match command {
         Command::Check { name, budget } => check(alloc, name, budget, room, out),
         Command::Obligations { name } => obligations(alloc, name, room, out),
+        Command::Derive { name, budget } => derive(alloc, name, budget, room, out),
         Command::Made { statements, budget } => judge_made(alloc, statements, budget, out),
     }
 }
@@ -138,6 +140,20 @@ fn obligations<R: Room, K: Sink>(alloc: Global, name: &str, room: &mut R, out: &
 {
     match fetched_outline(alloc, name, room, out) {
         Ok(outline) => list_obligations(alloc, &outline, out),
+        Err(status) => status,
+    }
+}
+
+// Judges the outline in the file of this name under a budget of nodes, and writes its derivation.
+fn derive<R: Room, K: Sink>(alloc: Global, name: &str, budget: u32, room: &mut R, out: &mut K) -> u8
+    requires budget { spec.IsBudget budget }
+    ensures ends { Ends (Some (spec.derive name.now budget)) (R.told room.old)
+        (R.faults room.old) (R.faults room.new) (R.taken room.old) (R.taken room.new)
+        result (K.written out.old) (K.written out.new) (K.faults out.old) (K.faults out.new) }
+    ensures told { (n : List ℕ) → R.told room.new n ≡ R.told room.old n }
+{
+    match fetched_outline(alloc, name, room, out) {
+        Ok(outline) => derive_outline(alloc, &outline, budget, out),
         Err(status) => status,
     }
 }

@@ -5,7 +5,8 @@ use std::alloc::{AllocError, Global};
 use std::fmt::Debug;
 use std::test::Fail;
 
-const USAGE: &[u8] = b"usage: check NAME [BUDGET] | obligations NAME | made N [BUDGET]\n";
+const USAGE: &[u8] =
+    b"usage: check NAME [BUDGET] | obligations NAME | derive NAME [BUDGET] | made N [BUDGET]\n";
 
 // Passes where what was found is what is wanted in this case.
 fn agree<T: PartialEq + Debug + Copy>(found: T, wanted: T, case: &[u8]) -> Result<(), Fail> {
@@ -270,6 +271,18 @@ const STALE: &[u8] = b"\
     step K(1)\n\
     ";
 
+// The derivation of `nothing`: each obligation is closed by two clauses, the one of which is false where the other is true.
+const NOTHING_DERIVED: &[u8] = b"\
+    derivation 1\n\
+    obligation 1\n\
+    leaf 1 2\n\
+    obligation 2\n\
+    leaf 3 4\n\
+    obligation 3\n\
+    leaf 3 4\n\
+    end\n\
+    ";
+
 // Words, the numbers of the fetch and of the put that fail, from 1, and then the status and the text.
 struct Call {
     words: &'static [&'static str],
@@ -279,7 +292,7 @@ struct Call {
     text: &'static [u8],
 }
 
-static CALLS: [Call; 62] = [
+static CALLS: [Call; 70] = [
     Call {
         words: &[],
         fetch: 0,
@@ -714,6 +727,62 @@ static CALLS: [Call; 62] = [
         status: 8,
         text: USAGE,
     },
+    Call {
+        words: &["derive", "nothing"],
+        fetch: 0,
+        put: 0,
+        status: 0,
+        text: NOTHING_DERIVED,
+    },
+    Call {
+        words: &["derive", "nothing", "1"],
+        fetch: 0,
+        put: 0,
+        status: 0,
+        text: NOTHING_DERIVED,
+    },
+    Call {
+        words: &["derive", "nothing"],
+        fetch: 0,
+        put: 3,
+        status: 7,
+        text: b"derivation 1\nobligation 1\n",
+    },
+    Call {
+        words: &["derive", "empty"],
+        fetch: 0,
+        put: 0,
+        status: 3,
+        text: b"refused 0 unexpected\n",
+    },
+    Call {
+        words: &["derive", "gone"],
+        fetch: 0,
+        put: 0,
+        status: 6,
+        text: b"",
+    },
+    Call {
+        words: &["derive"],
+        fetch: 0,
+        put: 0,
+        status: 8,
+        text: USAGE,
+    },
+    Call {
+        words: &["derive", "nothing", "0"],
+        fetch: 0,
+        put: 0,
+        status: 8,
+        text: USAGE,
+    },
+    Call {
+        words: &["derive", "nothing", "nothing"],
+        fetch: 0,
+        put: 0,
+        status: 8,
+        text: USAGE,
+    },
 ];
 
 // Passes where a call over the files ends as it should.
@@ -764,6 +833,24 @@ fn failing_puts_cut_lines(rt: HostRuntime) -> Result<(), Fail> {
         is_cut(rt.alloc(), failing, 7)?;
     }
     is_cut(rt.alloc(), 39, 0)
+}
+
+// Behind the derivation of an outline that is rejected stands the text of its judgement.
+#[test]
+fn rejected_derivations_are_told(rt: HostRuntime) -> Result<(), Fail> {
+    let words = &["derive", "stale"];
+    let mut room = MemoryRoom::make(files(rt.alloc(), words)?, Vec::new(rt.alloc()));
+    let mut out = QuietSink::make(rt.alloc());
+    let status = status_of(rt.alloc(), words, &mut room, &mut out)?;
+    agree(
+        (
+            status,
+            first_lines(out.bytes(), 2),
+            out.bytes().ends_with(STALE),
+        ),
+        (1, &b"derivation 1\nobligation 1\n"[..], true),
+        STALE,
+    )
 }
 
 // A room with one file of these bytes.
