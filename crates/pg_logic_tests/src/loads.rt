@@ -8,11 +8,11 @@ use pg_region::{Full, Region};
 use std::alloc::Global;
 use std::test::Fail;
 
-/// A flush between two stores, with nine obligations, of which the fourth on are two each of the three steps.
+/// A flush between two stores, with nine obligations.
 const FLUSHED: &[u8] =
     b"pierogi 1; values 2; location x = 0; location y = 0; pre !P(y,1); crash y = 1 -> x = 1; thread 1 { [!P(y,1)] x := 1; [!P(y,1) & L(x,1) & F(1,x)] flush x; [!P(x,0)] y := 1; [!P(x,0)] }";
 
-/// Passes where a region with these many words and spans less than is enough is full for each obligation, and stays empty.
+/// Passes where a region with these many words and spans less than is enough is full for the first obligation, and stays empty.
 fn is_full(alloc: Global, o: &Outline, words: u32, spans: u32) -> Result<(), Fail> {
     let mut loader = Loader::of(o);
     let needs = loader.needs();
