@@ -1,9 +1,7 @@
 -- A derivation, and the text of its judgement put behind it, are the answer to their outline.
-use Rattle.std.proofs.Common.{◌≡◌, ℕ, zero, suc, ◌≤◌, ◌⊎◌, inl, inr, Bool, Vec, List, [], ◌∷◌, ◌++◌, length, take, Option, None, Some, refl, sym, ap, subst, ◌∙◌, arith, append_assoc}
-use Rattle.std.proofs.lemmas.List.{append-nil}
+use Rattle.std.proofs.Common.{◌≡◌, ℕ, ◌≤◌, ◌⊎◌, inl, inr, Bool, Vec, List, [], ◌++◌, length, Option, refl, sym, subst}
 use Rattle.std.specs.declared.alloc.Global.{Global}
 use Rattle.pg_io.specs.Counts.{Rose}
-use Rattle.pg_io.specs.Written.{appended, AppendsPart}
 use Rattle.pg_outline.specs.Outline.{OutlineTable}
 use Rattle.pg_outline.specs.Made.{IsOutline}
 use Rattle.pg_program.specs.Limits.{most_scalars}
@@ -16,41 +14,7 @@ use Rattle.pg_derive.specs.Derived.{IsDerivation, IsDerivationUnder}
 use Rattle.pg_report.specs.Judged.{judgement_text}
 use Rattle.pg_app.specs.Answer.{IsJudged, IsDerived, rest_of, status_of}
 use Rattle.pg_app.specs.Put.{IsPart, Puts}
-use Rattle.pg_app.proofs.Puts.{whole_is_part}
-
--- ---- one text behind another
-
-appended_twice : (o : Option (List ℕ)) (a b : List ℕ) → appended (appended o a) b ≡ appended o (a ++ b)
-appended_twice None a b = refl
-appended_twice (Some xs) a b = ap Some (append_assoc xs a b)
-
-appended_nothing : (o : Option (List ℕ)) → appended o [] ≡ o
-appended_nothing None = refl
-appended_nothing (Some xs) = ap Some (append-nil xs)
-
-take_front : (k : ℕ) (xs ys : List ℕ) → (j : ℕ) × (take j (xs ++ ys) ≡ take k xs)
-take_front zero xs ys = (0, refl)
-take_front (suc k) [] ys = (0, refl)
-take_front (suc k) (x ∷ xs) ys = let h = take_front k xs ys in (suc h.0, ap (λ (l : List ℕ). x ∷ l) h.1)
-
-take_behind : (k : ℕ) (xs ys : List ℕ) → (j : ℕ) × (take j (xs ++ ys) ≡ xs ++ take k ys)
-take_behind k [] ys = (k, refl)
-take_behind k (x ∷ xs) ys = let h = take_behind k xs ys in (suc h.0, ap (λ (l : List ℕ). x ∷ l) h.1)
-
--- a part of the first text is a part of both
-part_front : (old new : Option (List ℕ)) (text rest : List ℕ) → AppendsPart old new text → AppendsPart old new (text ++ rest)
-part_front old new text rest part = let h = take_front part.0 text rest in (h.0, part.1 ∙ ap (appended old) (sym h.1))
-
--- and so is the first text with a part of the second
-part_behind : (old mid new : Option (List ℕ)) (text rest : List ℕ) → mid ≡ appended old text → AppendsPart mid new rest → AppendsPart old new (text ++ rest)
-part_behind old mid new text rest before part =
-    let h = take_behind part.0 text rest in (
-      h.0,
-      part.1
-          ∙ (ap (λ (o : Option (List ℕ)). appended o (take part.0 rest)) before
-          ∙ (appended_twice old text (take part.0 rest)
-          ∙ ap (appended old) (sym h.1))),
-    )
+use Rattle.pg_app.proofs.Behind.{appended_nothing, part_front, behind_puts}
 
 -- nothing is put behind the derivation of an outline that is accepted
 pub nothing_puts : (o : Option (List ℕ)) (before now : ℕ) → Puts (λ due text. (due ≡ 0) × (text ≡ [])) 0 o o before now
@@ -76,40 +40,11 @@ module _ (o : OutlineTable) (budget : ℕ) where
   derived a s derivation is says spells status_is =
       record { outcome = a; is = is; says = says; status_is = status_is; text_is = record { derivation = derivation; is = spells; spelled = refl } }
 
-  -- what is put behind it
-  module _ (old mid new : Option (List ℕ)) where
-    behind_part : (a : Outcome) → IsOutcome o budget a → Says o a → PutsText (IsDerivation o a) old mid
-        → (new ≡ mid) ⊎ IsPart (λ due text. (due ≡ status_of a) × (text ≡ rest_of o a)) mid new → IsPart (IsJudged IsDerived budget o) old new
-    behind_part a is says put (inl kept) = record {
-      status = status_of a;
-      text = put.text ++ rest_of o a;
-      due = derived a (status_of a) put.text is says put.is refl;
-      written = part_front old new put.text (rest_of o a) (whole_is_part old new put.text (kept ∙ put.written));
-    }
-    behind_part a is says put (inr part) = record {
-      status = status_of a;
-      text = put.text ++ rest_of o a;
-      due = derived a (status_of a) put.text is says put.is refl;
-      written = part_behind old mid new put.text (rest_of o a) put.written (rw part.due.1 at part.written);
-    }
-
-    module _ (before between now : ℕ) where
-      pub derived_puts : (a : Outcome) (status : ℕ) → IsOutcome o budget a → Says o a → PutsText (IsDerivation o a) old mid → before ≤ between
-          → Puts (λ due text. (due ≡ status_of a) × (text ≡ rest_of o a)) status mid new between now → Puts (IsJudged IsDerived budget o) status old new before now
-      derived_puts a status is says put le (inl full) = inl (record {
-        text = put.text ++ rest_of o a;
-        due = derived a status put.text is says put.is full.due.0;
-        written = full.written
-            ∙ (ap (λ (w : Option (List ℕ)). appended w full.text) put.written
-            ∙ (appended_twice old put.text full.text
-            ∙ ap (λ (l : List ℕ). appended old (put.text ++ l)) full.due.1));
-      })
-      derived_puts a status is says put le (inr (inl cut)) = inr (inl (record {
-        status_is = cut.status_is;
-        rose = let rose = cut.rose in omega (arith, le, rose);
-        part = behind_part a is says put (inr cut.part);
-      }))
-      derived_puts a status is says put le (inr (inr short)) = inr (inr (record { status_is = short.status_is; part = inr (behind_part a is says put short.part) }))
+  -- and what is put behind it
+  pub derived_puts : {old mid new : Option (List ℕ)} {before between now : ℕ} (a : Outcome) (status : ℕ) → IsOutcome o budget a → Says o a → PutsText (IsDerivation o a) old mid → before ≤ between
+      → Puts (λ due text. (due ≡ status_of a) × (text ≡ rest_of o a)) status mid new between now → Puts (IsJudged IsDerived budget o) status old new before now
+  derived_puts a status is says put le puts =
+      behind_puts put.text (rest_of o a) (status_of a) (derived a (status_of a) put.text is says put.is refl) put.written status le puts
 
   -- where nothing is put behind it, as it could not be written
   module _ (true_ : OutcomeIsTrue) (made : IsOutline o) (few : length o.program.names.scalars ≤ most_scalars) (old new : Option (List ℕ)) (before now : ℕ) where

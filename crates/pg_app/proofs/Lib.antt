@@ -1,9 +1,13 @@
 mod Numbers
 mod Puts
+mod Behind
 mod Faults
 mod Judged
 mod Derived
 mod Files
 mod Statuses
+mod BothFiles
+mod Checked
+mod Replayed
 mod Endings
 mod OneAnswer

@@ -5,7 +5,7 @@ use Rattle.std.proofs.Math.Seq.{take-length}
 use Rattle.pg_io.specs.Written.{appended, AppendsPart}
 use Rattle.pg_report.specs.declared.fault.ReportFault.{ReportFault}
 use Rattle.pg_report.specs.declared.fault.ReportFault.TheVariants.{Write, NoMemory}
-use Rattle.pg_report.specs.Reported.{ReportsLines}
+use Rattle.pg_report.specs.Reported.{Reports, ReportsLines}
 use Rattle.pg_app.specs.Put.{IsPart, Puts, status_after}
 
 -- the whole of a text is a part of it
@@ -26,7 +26,15 @@ module _ (P Q : ℕ → List ℕ → Type 0) (f : (s : ℕ) (text : List ℕ) �
   puts_map status old new before now (inr (inl cut)) = inr (inl (record { status_is = cut.status_is; rose = cut.rose; part = part_map old new cut.part }))
   puts_map status old new before now (inr (inr spent)) = inr (inr (record { status_is = spent.status_is; part = rest_map old new spent.part }))
 
--- what a report of lines leaves is a put of its text
+-- what a report of a line leaves is a put of its text
+pub line_puts : (text : List ℕ) (report : Result (Unit {0}) ReportFault) (status : ℕ) (old new : Option (List ℕ)) (before now : ℕ) → Reports text report old new before now
+    → Puts (λ due line. (due ≡ status) × (line ≡ text)) (status_after report status) old new before now
+line_puts text (Ok u) status old new before now left = inl (record { text = text; due = (refl, refl); written = left })
+line_puts text (Err Write) status old new before now left =
+    inr (inl (record { status_is = refl; rose = left.1; part = record { status = status; text = text; due = (refl, refl); written = left.0 } }))
+line_puts text (Err NoMemory) status old new before now left = inr (inr (record { status_is = refl; part = inl left }))
+
+-- and of lines
 pub report_puts : (text : List ℕ) (report : Result (Unit {0}) ReportFault) (status : ℕ) (old new : Option (List ℕ)) (before now : ℕ) → ReportsLines text report old new before now
     → Puts (λ due line. (due ≡ status) × (line ≡ text)) (status_after report status) old new before now
 report_puts text (Ok u) status old new before now left = inl (record { text = text; due = (refl, refl); written = left })

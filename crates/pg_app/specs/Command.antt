@@ -5,15 +5,18 @@ use Rattle.pg_made.specs.Limits.{most_statements}
 use Rattle.pg_judge.specs.Limits.{most_budget}
 use Rattle.pg_app.specs.declared.command.Command as code
 use Rattle.pg_app.specs.declared.command.Command.TheVariants as variant
-use Rattle.pg_app.specs.File.{File, outline_file}
+use Rattle.pg_app.specs.File.{File, outline_file, derivation_file, schedule_file}
 use Rattle.pg_app.specs.Number.{number_up_to}
 
 -- to judge the outline in the file of this name under a budget of nodes, to print its obligations, or to judge it and write its
--- derivation; or to judge the made outline with so many statements in each thread
+-- derivation; to check a derivation in a second file, or to replay a schedule there; or to judge the made outline with so many
+-- statements in each thread
 pub data Command : Type 0 where
   check : (name : List ℕ) (budget : ℕ) → Command
   obligations : (name : List ℕ) → Command
   derive : (name : List ℕ) (budget : ℕ) → Command
+  verify : (name derivation : List ℕ) → Command
+  replay : (name schedule : List ℕ) → Command
   made : (statements budget : ℕ) → Command
 
 -- ---- words
@@ -53,6 +56,22 @@ obligations_of (word ∷ other ∷ more) = None
 abbrev pub derive_of : List (String Global) → Option Command
 derive_of words = option_map (λ said. derive said.0 said.1) (name_and_budget words)
 
+-- `NAME NAME`
+abbrev pub two_names : List (String Global) → Option (List ℕ × List ℕ)
+two_names [] = None
+two_names (word ∷ []) = None
+two_names (word ∷ other ∷ []) =
+    option_and_then (λ name. option_map (λ second. (name, second)) (name_in (string_bytes other))) (name_in (string_bytes word))
+two_names (word ∷ other ∷ third ∷ more) = None
+
+-- `verify NAME NAME`
+abbrev pub verify_of : List (String Global) → Option Command
+verify_of words = option_map (λ said. verify said.0 said.1) (two_names words)
+
+-- `replay NAME NAME`
+abbrev pub replay_of : List (String Global) → Option Command
+replay_of words = option_map (λ said. replay said.0 said.1) (two_names words)
+
 -- `N [BUDGET]`
 abbrev pub number_and_budget : List (String Global) → Option (ℕ × ℕ)
 number_and_budget [] = None
@@ -69,7 +88,9 @@ begun word rest =
     if bytes_eq word (codes "check") then check_of rest
     else (if bytes_eq word (codes "obligations") then obligations_of rest
     else (if bytes_eq word (codes "derive") then derive_of rest
-    else (if bytes_eq word (codes "made") then made_of rest else None)))
+    else (if bytes_eq word (codes "verify") then verify_of rest
+    else (if bytes_eq word (codes "replay") then replay_of rest
+    else (if bytes_eq word (codes "made") then made_of rest else None)))))
 
 -- what the words ask for, unless they have none of these shapes
 abbrev pub command_of : List (String Global) → Option Command
@@ -81,6 +102,8 @@ abbrev pub asked : code.Command → Command
 asked (variant.Check name budget) = check name.now budget
 asked (variant.Obligations name) = obligations name.now
 asked (variant.Derive name budget) = derive name.now budget
+asked (variant.Verify name derivation) = verify name.now derivation.now
+asked (variant.Replay name schedule) = replay name.now schedule.now
 asked (variant.Made statements budget) = made statements budget
 
 -- a budget that may be given
@@ -96,6 +119,8 @@ abbrev pub HasBudget : code.Command → Type 0
 HasBudget (variant.Check name budget) = IsBudget budget
 HasBudget (variant.Obligations name) = Unit {0}
 HasBudget (variant.Derive name budget) = IsBudget budget
+HasBudget (variant.Verify name derivation) = Unit {0}
+HasBudget (variant.Replay name schedule) = Unit {0}
 HasBudget (variant.Made statements budget) = IsStatements statements × IsBudget budget
 
 -- the words ask for a derivation
@@ -104,6 +129,8 @@ AsksForDerivation None = ⊥
 AsksForDerivation (Some (check name budget)) = ⊥
 AsksForDerivation (Some (obligations name)) = ⊥
 AsksForDerivation (Some (derive name budget)) = Unit {0}
+AsksForDerivation (Some (verify name derivation)) = ⊥
+AsksForDerivation (Some (replay name schedule)) = ⊥
 AsksForDerivation (Some (made statements budget)) = ⊥
 
 -- ---- files
@@ -113,6 +140,8 @@ abbrev pub files_of : Command → List File
 files_of (check name budget) = outline_file name ∷ []
 files_of (obligations name) = outline_file name ∷ []
 files_of (derive name budget) = outline_file name ∷ []
+files_of (verify name derivation) = outline_file name ∷ derivation_file derivation ∷ []
+files_of (replay name schedule) = outline_file name ∷ schedule_file schedule ∷ []
 files_of (made statements budget) = []
 
 abbrev pub files_for : Option Command → List File

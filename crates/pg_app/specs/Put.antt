@@ -1,9 +1,13 @@
 -- How a text with its status comes to be put on a sink. `Due status text` says which statuses and
 -- texts are due; `old` and `new` are what the sink tells it has written, and `before` and `now` are
 -- its counts of faults.
-use Rattle.std.specs.Prelude.{◌≡◌, ℕ, ◌⊎◌, List, Option, Result, Ok, Err}
+use Rattle.std.specs.Prelude.{◌≡◌, ℕ, Bool, true, false, ◌⊎◌, List, Option, Some, None, Result, Ok, Err}
 use Rattle.pg_io.specs.Counts.{Rose}
 use Rattle.pg_io.specs.Written.{appended, AppendsPart}
+use Rattle.pg_derive.specs.declared.fault.VerifyFault.{VerifyFault}
+use Rattle.pg_derive.specs.declared.fault.VerifyFault.TheVariants as verifying
+use Rattle.pg_replay.specs.declared.fault.ReplayFault.TheVariants as replaying
+use Rattle.pg_replay.specs.Replay.{Answer}
 use Rattle.pg_report.specs.declared.fault.ReportFault.{ReportFault}
 use Rattle.pg_report.specs.declared.fault.ReportFault.TheVariants.{Write, NoMemory}
 
@@ -40,3 +44,19 @@ abbrev pub status_after : Result (Unit {0}) ReportFault → ℕ → ℕ
 status_after (Ok u) status = status
 status_after (Err Write) status = 7
 status_after (Err NoMemory) status = 9
+
+-- memory ran out before a derivation was checked
+abbrev pub ran_out : Result ℕ VerifyFault → Bool
+ran_out (Ok n) = false
+ran_out (Err (verifying.Tree i fault)) = false
+ran_out (Err (verifying.Missing i)) = false
+ran_out (Err (verifying.Extra i)) = false
+ran_out (Err verifying.NoMemory) = true
+
+-- the status of a replay that was cut short
+abbrev pub cut_status : Answer → Option ℕ
+cut_status (Ok found) = None
+cut_status (Err (replaying.Step line fault)) = None
+cut_status (Err (replaying.Crash line fault)) = None
+cut_status (Err replaying.Write) = Some 7
+cut_status (Err replaying.NoMemory) = Some 9

@@ -10,11 +10,11 @@ use Rattle.pg_app.specs.File.{File, limit, IsTextOf}
 use Rattle.pg_app.specs.Command.{Command, AsksForDerivation, command_of, files_for, files_in}
 use Rattle.pg_app.specs.Answer.{Found, whole, longer, AnswersTo, Defined}
 use Rattle.pg_app.specs.Put.{Puts}
-use Rattle.pg_app.specs.Safety.{Claims}
+use Rattle.pg_app.specs.Safety.{Claims, Denies}
 
 -- the statuses of the program
 abbrev pub statuses : List ℕ
-statuses = 0 ∷ 1 ∷ 2 ∷ 3 ∷ 6 ∷ 7 ∷ 8 ∷ 9 ∷ 10 ∷ []
+statuses = 0 ∷ 1 ∷ 2 ∷ 3 ∷ 4 ∷ 5 ∷ 6 ∷ 7 ∷ 8 ∷ 9 ∷ 10 ∷ []
 
 -- the status of an answer: no fetch failed, no put failed, and memory did not run out
 pub record IsAnswer (status : ℕ) : Type 0 where
@@ -98,3 +98,4 @@ pub record IsRun (words : List (String Global)) (told : List ℕ → Option (Lis
   pub complete : AreTold (files_in words) told → AreQuiet (files_in words) faults faults_now → ¬ Rose before now →
       Writes words told status old new ⊎ (status ≡ 9)
   pub safe : status ≡ 0 → IfSome (command_of words) (λ command. Claims command told)
+  pub denied : status ≡ 1 → IfSome (command_of words) (λ command. Denies command told)

@@ -1,6 +1,7 @@
 -- How the fetch of a file ends: with what it is of, or with the end of the call.
-use Rattle.std.specs.Prelude.{◌≡◌, ℕ, ◌⊎◌, List, Option}
+use Rattle.std.specs.Prelude.{◌≡◌, ℕ, ◌⊎◌, List, Option, Result, Ok}
 use Rattle.pg_io.specs.Counts.{Rose}
+use Rattle.pg_document.specs.declared.fault.DocFault.{DocFault}
 use Rattle.pg_outline.specs.Outline.{OutlineTable}
 use Rattle.pg_outline_text.specs.Text.{StandsFor}
 use Rattle.pg_app.specs.File.{File}
@@ -14,6 +15,12 @@ pub record IsFetched (told : List ℕ → Option (List ℕ)) (taken taken_now : 
   pub finds : Fetches told taken taken_now file (whole bytes)
   pub stands : StandsFor bytes o
 
+-- and the document that which they are read as
+pub record IsFetchedAs {A : Type 0} (read : List ℕ → Result A DocFault) (told : List ℕ → Option (List ℕ)) (taken taken_now : ℕ) (file : File) (document : A) : Type 0 where
+  pub bytes : List ℕ
+  pub finds : Fetches told taken taken_now file (whole bytes)
+  pub is : read bytes ≡ Ok document
+
 -- the file's count of faults rose, and nothing was written
 pub record IsFailed (faults faults_now status : ℕ) (old new : Option (List ℕ)) : Type 0 where
   pub status_is : status ≡ 6
@@ -24,4 +31,10 @@ pub record IsFailed (faults faults_now status : ℕ) (old new : Option (List ℕ
 pub record Stops (told : List ℕ → Option (List ℕ)) (file : File) (faults faults_now taken taken_now status : ℕ) (old new : Option (List ℕ)) (before now : ℕ) : Type 0 where
   pub how :
       Puts (OnFile (Fetches told taken taken_now) file (IsRefused file.kind)) status old new before now
+      ⊎ IsFailed faults faults_now status old new
+
+-- the answer on the file was put, by how its bytes are taken, or the file could not be fetched
+pub record EndsOn (Takes : List ℕ → ℕ → List ℕ → Type 0) (told : List ℕ → Option (List ℕ)) (file : File) (faults faults_now taken taken_now status : ℕ) (old new : Option (List ℕ)) (before now : ℕ) : Type 0 where
+  pub how :
+      Puts (OnFile (Fetches told taken taken_now) file Takes) status old new before now
       ⊎ IsFailed faults faults_now status old new

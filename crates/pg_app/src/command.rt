@@ -19,12 +19,16 @@ pub enum Command<'a> {
     Obligations { name: &'a str },
     /// To judge the outline in a file under a budget of nodes, and to write its derivation.
     Derive { name: &'a str, budget: u32 },
+    /// To check the derivation in a second file against the outline in the first.
+    Verify { name: &'a str, derivation: &'a str },
+    /// To replay the schedule in a second file on the outline in the first.
+    Replay { name: &'a str, schedule: &'a str },
     /// To judge the made outline with so many statements in each thread, under a budget of nodes.
     Made { statements: u32, budget: u32 },
 }
 
-/// The command that the words are, if they have one of the shapes `check NAME [BUDGET]`, `obligations NAME`, `derive NAME [BUDGET]` and
-/// `made N [BUDGET]`. A name is not empty, a budget is a number from 1 to 1,000,000 in decimal digits without a leading zero, and N is one
+/// The command that the words are, if they have one of the shapes `check NAME [BUDGET]`, `obligations NAME`, `derive NAME [BUDGET]`,
+/// `verify NAME NAME`, `replay NAME NAME` and `made N [BUDGET]`. A name is not empty, a budget is a number from 1 to 1,000,000 in decimal digits without a leading zero, and N is one
 /// from 1 to 15.
 pub fn command_of(words: &[String]) -> Option<Command<'_>>
     ensures asked { option_map spec.asked result ≡ spec.command_of words.now }
@@ -37,6 +41,8 @@ pub fn command_of(words: &[String]) -> Option<Command<'_>>
         "check" => check_of(rest),
         "obligations" => obligations_of(rest),
         "derive" => derive_of(rest),
+        "verify" => verify_of(rest),
+        "replay" => replay_of(rest),
         "made" => made_of(rest),
         _ => None,
     }
@@ -73,6 +79,24 @@ fn derive_of(words: &[String]) -> Option<Command<'_>>
     Some(Command::Derive { name, budget })
 }
 
+// `verify`, with what is behind it.
+fn verify_of(words: &[String]) -> Option<Command<'_>>
+    ensures asked { option_map spec.asked result ≡ spec.verify_of words.now }
+    ensures budget { IfSome result spec.HasBudget }
+{
+    let (name, derivation) = two_names(words)?;
+    Some(Command::Verify { name, derivation })
+}
+
+// `replay`, with what is behind it.
+fn replay_of(words: &[String]) -> Option<Command<'_>>
+    ensures asked { option_map spec.asked result ≡ spec.replay_of words.now }
+    ensures budget { IfSome result spec.HasBudget }
+{
+    let (name, schedule) = two_names(words)?;
+    Some(Command::Replay { name, schedule })
+}
+
 // `made`, with what is behind it.
 fn made_of(words: &[String]) -> Option<Command<'_>>
     ensures asked { option_map spec.asked result ≡ spec.made_of words.now }
@@ -106,6 +130,18 @@ fn name_and_budget(words: &[String]) -> Option<(&str, u32)>
     let name = name_in(word)?;
     let budget = budget_in(rest)?;
     Some((name, budget))
+}
+
+// Two names.
+fn two_names(words: &[String]) -> Option<(&str, &str)>
+    ensures { option_map (λ said. (said.0.now, said.1.now)) result ≡ spec.two_names words.now }
+{
+    let [word, other] = words else {
+        return None;
+    };
+    let name = name_in(word)?;
+    let second = name_in(other)?;
+    Some((name, second))
 }
 
 // A name, unless the word is empty.

@@ -8,6 +8,10 @@ ghost use Rattle.pg_app.specs.File.{longest};
 pub enum Kind {
     /// The text of an outline.
     Outline,
+    /// The text of a derivation.
+    Derivation,
+    /// The text of a schedule.
+    Schedule,
 }
 
 impl Kind {
@@ -17,6 +21,8 @@ impl Kind {
     {
         match self {
             Kind::Outline => 1_048_576,
+            Kind::Derivation => 67_108_864,
+            Kind::Schedule => 4_194_304,
         }
     }
 }

@@ -7,7 +7,7 @@ use std::alloc::{AllocError, Global};
 
 /// What is answered to words that are no command.
 pub const USAGE: &[u8] =
-    b"usage: check NAME [BUDGET] | obligations NAME | derive NAME [BUDGET] | made N [BUDGET]\n";
+    b"usage: check NAME [BUDGET] | obligations NAME | derive NAME [BUDGET] | verify NAME NAME | replay NAME NAME | made N [BUDGET]\n";
 
 /// The line of a file that is longer than its limit.
 pub fn too_long_line(alloc: Global, name: &str) -> Result<Vec<u8>, AllocError>

@@ -1,6 +1,7 @@
 //! A checker of proof outlines for concurrent programs on persistent memory: `check NAME [BUDGET]`
 //! judges the outline in the file NAME, `obligations NAME` prints what there is to prove of it,
-//! `derive NAME [BUDGET]` judges it and writes its derivation, and `made N [BUDGET]` judges the made
+//! `derive NAME [BUDGET]` judges it and writes its derivation, `verify NAME NAME` checks a derivation in
+//! a second file, `replay NAME NAME` replays a schedule there, and `made N [BUDGET]` judges the made
 //! outline of N statements for each thread. Each writes its text to standard output, and ends with a
 //! status.
 //!
@@ -14,13 +15,16 @@ ghost use Rattle.pg_app.specs.Run.{statuses};
 
 mod command;
 mod derive;
+mod fetch;
 mod file;
 mod judge;
 mod line;
 mod made;
 mod put;
+mod replay;
 mod run;
 mod status;
+mod verify;
 
 use crate::run::started;
 use crate::status::{NO_COMMAND, NO_MEMORY};

@@ -4,16 +4,18 @@
 ghost use Rattle.std.specs.Prelude.{◌≡◌, ◌≢◌, ℕ, List};
 ghost use Rattle.pg_outline_text.specs.Fault.{IsFaultOrMemory};
 ghost use Rattle.pg_outline_text.specs.Text.{Tells};
+ghost use Rattle.pg_report.specs.Documents.{document_line};
 ghost use Rattle.pg_app.specs.Line.{too_long};
 ghost use Rattle.pg_app.specs.Answer.{IsListed, IsRefusal};
 ghost use Rattle.pg_app.specs.Put.{Puts, status_after};
 
 use crate::line::too_long_line;
-use crate::status::{NO_MEMORY, NOT_WRITTEN, PRINTED, REFUSED, TOO_LONG};
+use crate::status::{NO_DOCUMENT, NO_MEMORY, NOT_WRITTEN, PRINTED, REFUSED, TOO_LONG};
+use pg_document::DocFault;
 use pg_io::{Sink, SinkFault};
 use pg_outline::Outline;
 use pg_outline_text::FileFault;
-use pg_report::{ReportFault, report_file_fault, report_obligations};
+use pg_report::{ReportFault, report_doc_fault, report_file_fault, report_obligations};
 use std::alloc::Global;
 
 /// Puts the text of an outline's obligations.
@@ -57,6 +59,17 @@ fn refuse<K: Sink>(alloc: Global, fault: &FileFault, out: &mut K) -> u8
         Err(ReportFault::Write) => NOT_WRITTEN,
         Err(ReportFault::NoMemory) => NO_MEMORY,
     }
+}
+
+/// Puts the line of the fault of a text that is no document.
+pub fn refuse_document<K: Sink>(alloc: Global, fault: DocFault, out: &mut K) -> u8
+    ensures { Puts (λ due text. (fault ≢ DocFault.NoMemory) × ((due ≡ 4) × (text ≡ document_line fault)))
+        result (K.written out.old) (K.written out.new) (K.faults out.old) (K.faults out.new) }
+{
+    if fault == DocFault::NoMemory {
+        return NO_MEMORY;
+    }
+    reported(report_doc_fault(alloc, &fault, out), NO_DOCUMENT)
 }
 
 /// Puts the line of a file that is longer than its limit.

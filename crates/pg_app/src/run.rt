@@ -7,28 +7,25 @@
 ghost use Rattle.std.specs.Prelude.{◌≡◌, ◌⊎◌, ◌+◌, ◌≤◌, ℕ, List, length, Some, IsNone, IfSome, IfNone, IfOk, IfErr, OnOk, OnErr, Contains};
 ghost use Rattle.pg_io.specs.Counts.{Rose, RoseBy};
 ghost use Rattle.pg_io.specs.Written.{appended};
-ghost use Rattle.pg_outline_text.specs.Text.{StandsFor};
 ghost use Rattle.pg_app.specs.Line.{usage};
 ghost use Rattle.pg_app.specs.Command as spec;
 ghost use Rattle.pg_app.specs.Command.{files_in};
-ghost use Rattle.pg_app.specs.File.{file_of, limit, longest, outline_file};
-ghost use Rattle.pg_app.specs.Answer.{IsRefusal, whole};
-ghost use Rattle.pg_app.specs.Put.{Puts};
-ghost use Rattle.pg_app.specs.Safety.{Claims};
-ghost use Rattle.pg_app.specs.Run.{statuses, AreQuiet, AreTold, HasOneAnswer, IsAnswer, IsRun, Reached, Writes, WritesPart, Ends, Fetches};
-ghost use Rattle.pg_app.specs.Stops.{IsFetched, Stops};
+ghost use Rattle.pg_app.specs.File.{limit};
+ghost use Rattle.pg_app.specs.Safety.{Claims, Denies};
+ghost use Rattle.pg_app.specs.Run.{statuses, AreQuiet, AreTold, HasOneAnswer, IsAnswer, IsRun, Reached, Writes, WritesPart, Ends};
 
 use crate::command::{Command, command_of};
 use crate::derive::derive_outline;
-use crate::file::Kind;
+use crate::fetch::fetched_outline;
 use crate::judge::judge_outline;
 use crate::line::USAGE;
 use crate::made::judge_made;
-use crate::put::{list_obligations, put_line, refuse_length, refuse_outline};
-use crate::status::{NO_COMMAND, NO_MEMORY, NOT_FETCHED};
-use pg_io::{Room, RoomFault, Sink};
-use pg_outline::Outline;
-use pg_outline_text::parse_outline;
+use crate::put::{list_obligations, put_line};
+use crate::replay::replay_on;
+use crate::status::NO_COMMAND;
+use crate::verify::verify_against;
+use pg_derive::laws::a_derivation_has_one_answer;
+use pg_io::{Room, Sink};
 use std::alloc::Global;
 
 /// Does what the words say, and answers the status: fetches the files of the command from the room,
@@ -68,9 +65,13 @@ pub fn run<R: Room, K: Sink>(alloc: Global, words: &[String], room: &mut R, out:
     // memory that a crash may leave satisfies the crash formula.
     ensures safe { result ≡ 0 → IfSome (spec.command_of words.now) (λ command. Claims command (R.told room.old)) }
 
+    // What a violation denies: that every obligation follows, and so that `check` accepts the file, under any budget.
+    ensures denied { result ≡ 1 → IfSome (spec.command_of words.now) (λ command. Denies command (R.told room.old)) }
+
     // What stays.
     ensures told { (n : List ℕ) → R.told room.new n ≡ R.told room.old n }
 {
+    a_derivation_has_one_answer();
     match command_of(words) {
         Some(command) => perform(alloc, command, room, out),
         None => put_line(out, NO_COMMAND, USAGE),
@@ -113,6 +114,8 @@ fn perform<R: Room, K: Sink>(alloc: Global, command: Command<'_>, room: &mut R, 
         Command::Check { name, budget } => check(alloc, name, budget, room, out),
         Command::Obligations { name } => obligations(alloc, name, room, out),
         Command::Derive { name, budget } => derive(alloc, name, budget, room, out),
+        Command::Verify { name, derivation } => verify(alloc, name, derivation, room, out),
+        Command::Replay { name, schedule } => replay(alloc, name, schedule, room, out),
         Command::Made { statements, budget } => judge_made(alloc, statements, budget, out),
     }
 }
@@ -158,60 +161,40 @@ fn derive<R: Room, K: Sink>(alloc: Global, name: &str, budget: u32, room: &mut R
     }
 }
 
-// The outline in the file of this name, or the status that the call ends with, where the refusal was put.
-fn fetched_outline<R: Room, K: Sink>(
+// Checks the derivation in the second file against the outline in the first.
+fn verify<R: Room, K: Sink>(
     alloc: Global,
     name: &str,
+    derivation: &str,
     room: &mut R,
     out: &mut K,
-) -> Result<Outline, u8>
-    ensures fetched { IfOk result (λ o. IsFetched (R.told room.old) (R.taken room.old) (R.taken room.new) (outline_file name.now) o) }
-    ensures unwritten { OnOk result (out.new ≡ out.old) }
-    ensures stops { IfErr result (λ status. Stops (R.told room.old) (outline_file name.now)
-        (R.faults room.old name.now) (R.faults room.new name.now) (R.taken room.old) (R.taken room.new)
-        status (K.written out.old) (K.written out.new) (K.faults out.old) (K.faults out.new)) }
+) -> u8
+    ensures ends { Ends (Some (spec.verify name.now derivation.now)) (R.told room.old)
+        (R.faults room.old) (R.faults room.new) (R.taken room.old) (R.taken room.new)
+        result (K.written out.old) (K.written out.new) (K.faults out.old) (K.faults out.new) }
     ensures told { (n : List ℕ) → R.told room.new n ≡ R.told room.old n }
 {
-    match fetched(alloc, name, Kind::Outline, room, out) {
-        Ok(bytes) => read_outline(alloc, bytes.as_slice(), out),
-        Err(status) => Err(status),
+    match fetched_outline(alloc, name, room, out) {
+        Ok(outline) => verify_against(alloc, &outline, derivation, room, out),
+        Err(status) => status,
     }
 }
 
-// The bytes of a file, or the status that the call ends with, where a line for a file that is too long was put.
-fn fetched<R: Room, K: Sink>(
+// Replays the schedule in the second file on the outline in the first.
+fn replay<R: Room, K: Sink>(
     alloc: Global,
     name: &str,
-    kind: Kind,
+    schedule: &str,
     room: &mut R,
     out: &mut K,
-) -> Result<Vec<u8>, u8>
-    ensures fetched { IfOk result (λ bytes. Fetches (R.told room.old) (R.taken room.old) (R.taken room.new) (file_of name.now kind) (whole bytes.items)) }
-    ensures unwritten { OnOk result (out.new ≡ out.old) }
-    ensures stops { IfErr result (λ status. Stops (R.told room.old) (file_of name.now kind)
-        (R.faults room.old name.now) (R.faults room.new name.now) (R.taken room.old) (R.taken room.new)
-        status (K.written out.old) (K.written out.new) (K.faults out.old) (K.faults out.new)) }
+) -> u8
+    ensures ends { Ends (Some (spec.replay name.now schedule.now)) (R.told room.old)
+        (R.faults room.old) (R.faults room.new) (R.taken room.old) (R.taken room.new)
+        result (K.written out.old) (K.written out.new) (K.faults out.old) (K.faults out.new) }
     ensures told { (n : List ℕ) → R.told room.new n ≡ R.told room.old n }
 {
-    let mut bytes = Vec::new(alloc);
-    match room.fetch(name, kind.limit(), &mut bytes) {
-        Ok(()) => Ok(bytes),
-        Err(RoomFault::Failed) => Err(NOT_FETCHED),
-        Err(RoomFault::TooLong(_)) => Err(refuse_length(alloc, name, out)),
-        Err(RoomFault::NoMemory) => Err(NO_MEMORY),
-    }
-}
-
-// The outline that these bytes stand for, or the status that the call ends with, where the refusal was put.
-fn read_outline<K: Sink>(alloc: Global, bytes: &[u8], out: &mut K) -> Result<Outline, u8>
-    requires { length bytes.now ≤ longest Kind.Outline }
-    ensures stands { IfOk result (λ o. StandsFor bytes.now o) }
-    ensures unwritten { OnOk result (out.new ≡ out.old) }
-    ensures refused { IfErr result (λ status. Puts (IsRefusal bytes.now)
-        status (K.written out.old) (K.written out.new) (K.faults out.old) (K.faults out.new)) }
-{
-    match parse_outline(alloc, bytes) {
-        Ok(outline) => Ok(outline),
-        Err(fault) => Err(refuse_outline(alloc, &fault, out)),
+    match fetched_outline(alloc, name, room, out) {
+        Ok(outline) => replay_on(alloc, &outline, schedule, room, out),
+        Err(status) => status,
     }
 }

@@ -9,7 +9,7 @@ use Rattle.pg_app.proofs.derive.derive_outline.Goals as goal
 
 pub returns-in-Ok : goal.returns-in-Ok
 returns-in-Ok g c =
-    derived_puts c.args.outline.now c.args.budget _ _ _ _ _ _ (outcome_of c.in-Ok.judgement) _ c.in-Ok.ensures.outcome c.in-Ok.ensures.says
+    derived_puts c.args.outline.now c.args.budget (outcome_of c.in-Ok.judgement) _ c.in-Ok.ensures.outcome c.in-Ok.ensures.says
     (rw c.in-Ok.is at c.derive.ensures.derivation) c.derive.ensures.faults c.put_rest.ensures
 
 pub returns-in-Err-Write : goal.returns-in-Err-Write

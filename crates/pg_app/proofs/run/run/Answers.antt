@@ -2,7 +2,7 @@
 use Rattle.std.proofs.Common.{refl, Some}
 use Rattle.pg_app.specs.Line.{usage}
 use Rattle.pg_app.specs.Command.{asked}
-use Rattle.pg_app.proofs.Endings.{ends_in_range, ends_unread, ends_unwritten, ends_defined, ends_part, ends_complete, ends_long, ends_shaped, ends_safe, usage_in_range, usage_written}
+use Rattle.pg_app.proofs.Endings.{ends_in_range, ends_unread, ends_unwritten, ends_defined, ends_part, ends_complete, ends_long, ends_shaped, ends_safe, ends_denied, usage_in_range, usage_written}
 use Rattle.pg_app.proofs.OneAnswer.{one_answer}
 use Rattle.pg_app.proofs.run.run.Goals as goal
 
@@ -40,10 +40,13 @@ pub returns-in-None-clause-usage : goal.returns-in-None-clause-usage
 returns-in-None-clause-usage g c = λ is_usage. (rw (← c.in-None.ensures.asked) refl, usage_written usage c.put_line.ensures is_usage)
 
 pub returns-in-Some-clause-only : goal.returns-in-Some-clause-only
-returns-in-Some-clause-only g c = one_answer c.args.words.now _
+returns-in-Some-clause-only g c = one_answer c.a_derivation_has_one_answer.ensures c.args.words.now _
 
 pub returns-in-None-clause-only : goal.returns-in-None-clause-only
-returns-in-None-clause-only g c = one_answer c.args.words.now _
+returns-in-None-clause-only g c = one_answer c.a_derivation_has_one_answer.ensures c.args.words.now _
 
 pub returns-in-Some-clause-safe : goal.returns-in-Some-clause-safe
 returns-in-Some-clause-safe g c = λ is_zero. rw (← c.in-Some.ensures.asked) (ends_safe (asked c.in-Some.command) c.perform.ensures.ends is_zero)
+
+pub returns-in-Some-clause-denied : goal.returns-in-Some-clause-denied
+returns-in-Some-clause-denied g c = λ is_one. rw (← c.in-Some.ensures.asked) (ends_denied (asked c.in-Some.command) c.perform.ensures.ends is_one)

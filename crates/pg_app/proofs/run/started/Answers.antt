@@ -24,5 +24,6 @@ returns-in-Ok-clause-ran g c =
       part = rw (← same) ran.part;
       complete = rw (← same) ran.complete;
       safe = rw (← same) ran.safe;
+      denied = rw (← same) ran.denied;
     } in
     rw c.in-Ok.is is

@@ -1,7 +1,7 @@
 -- The bytes that were fetched are read, or the call ends.
 use Rattle.pg_app.specs.File.{outline_file}
 use Rattle.pg_app.proofs.Endings.{refused_stops}
-use Rattle.pg_app.proofs.run.fetched_outline.Goals as goal
+use Rattle.pg_app.proofs.fetch.fetched_outline.Goals as goal
 
 pub returns-in-Ok-clause-stops : goal.returns-in-Ok-clause-stops
 returns-in-Ok-clause-stops g c =

@@ -3,7 +3,7 @@ use Rattle.std.proofs.Common.{◌≡◌, ◌<◌, Err, arith}
 use Rattle.pg_io.specs.declared.outside.RoomFault.TheVariants.{TooLong}
 use Rattle.pg_app.specs.File.{file_of, longest}
 use Rattle.pg_app.proofs.Endings.{long_stops}
-use Rattle.pg_app.proofs.run.fetched.Goals as goal
+use Rattle.pg_app.proofs.fetch.fetched.Goals as goal
 
 pub returns-in-Err-TooLong-clause-stops : goal.returns-in-Err-TooLong-clause-stops
 returns-in-Err-TooLong-clause-stops g c =
