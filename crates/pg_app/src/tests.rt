@@ -6,7 +6,7 @@ use std::fmt::Debug;
 use std::test::Fail;
 
 const USAGE: &[u8] =
-    b"usage: check NAME [BUDGET] | obligations NAME | derive NAME [BUDGET] | made N [BUDGET]\n";
+    b"usage: check NAME [BUDGET] | obligations NAME | derive NAME [BUDGET] | verify NAME NAME | replay NAME NAME | made N [BUDGET]\n";
 
 // Passes where what was found is what is wanted in this case.
 fn agree<T: PartialEq + Debug + Copy>(found: T, wanted: T, case: &[u8]) -> Result<(), Fail> {
@@ -1399,4 +1399,576 @@ fn long_files_are_refused(rt: HostRuntime) -> Result<(), Fail> {
         is_filled_refused(rt.alloc(), *front, *byte, *line)?;
     }
     Ok(())
+}
+
+// A command, an outline and its second file, and then the status and the text.
+struct Beside {
+    command: &'static str,
+    outline: &'static [u8],
+    second: &'static [u8],
+    status: u8,
+    text: &'static [u8],
+}
+
+const NOTHING: &[u8] = b"pierogi 1; values 2; thread 1 { [ true ] }";
+
+const UNFLUSHED: &[u8] =
+    b"pierogi 1; values 2; location x = 0; location y = 0;\npre !P(y,1); crash y = 1 -> x = 1;\nthread 1 { [!P(y,1)] x := 1; [!P(y,1) & L(x,1) & F(1,x)] y := 1; [true] }";
+
+const OWN_READS: &[u8] =
+    b"pierogi 1; values 2; location x = 0; location y = 0;\nregister r of 1; register a of 1; register s of 2; register b of 2; auxiliary e;\nthread 1 { [true] x := 1; [true] r := x; [true] a := y; [e = 1 -> a = 1 | b = 1] }\nthread 2 { [true] y := 1; [true] s := y; [true] b := x < e := 1 >; [true] }";
+
+const CHANGED: &[u8] =
+    b"pierogi 1; values 2; location x = 0; register a of 2; thread 1 { [true] x := 1; [true] } thread 2 { [true] a := cas(x, 1, 0); [true] }";
+
+const READ_TWICE: &[u8] =
+    b"pierogi 1; values 2; location x = 0; register a of 2; register b of 2; thread 1 { [true] x := 1; [true] } thread 2 { [true] a := x; [true] b := x; [true] }";
+
+const MESSAGE: &[u8] =
+    b"pierogi 1; values 2; location x = 0; location y = 0;\nregister a of 2; register b of 2; pre !R(2,y,1);\nthread 1 { [true] x := 1; [L(x,1)] y := 1; [true] }\nthread 2 { [!C(2,y,1,x,0)] a := y; [a = 1 -> !R(2,x,0)] b := x; [a = 1 -> b = 1] }";
+
+const LOOP: &[u8] =
+    b"pierogi 1; values 2; register a of 1; thread 1 { [true] while a = 0 { } [!a = 0] }";
+
+// A schedule whose crash finds the second store and not the first, and its trace.
+const TORN: &[u8] = b"\
+    schedule 1\n\
+    step 1\n\
+    step 1\n\
+    crash at 0 2\n\
+    ";
+
+const TORN_TRACE: &[u8] = b"\
+    2 1.1 > 1.2 write 1 at 1\n\
+    3 1.2 > 1.3 write 1 at 2\n\
+    4 crash x=0 y=1\n\
+    violated line 4 crash\n\
+    ";
+
+static BESIDE: [Beside; 23] = [
+    // A derivation, and what spoils it: clauses that are no conflict, that there are not, that are no unit; a tree too few, and one too
+    // many; no end, nothing at all, another version; a split without its branches; a name that no derivation has.
+    Beside {
+        command: "verify",
+        outline: NOTHING,
+        second: NOTHING_DERIVED,
+        status: 0,
+        text: b"\
+    verified 3\n\
+    ",
+    },
+    Beside {
+        command: "verify",
+        outline: NOTHING,
+        second: b"\
+    derivation 1\n\
+    obligation 1\n\
+    leaf 1 2\n\
+    obligation 2\n\
+    leaf 1 4\n\
+    obligation 3\n\
+    leaf 3 4\n\
+    end\n\
+    ",
+        status: 5,
+        text: b"\
+    refused 2 line 5 no conflict\n\
+    ",
+    },
+    Beside {
+        command: "verify",
+        outline: NOTHING,
+        second: b"\
+    derivation 1\n\
+    obligation 1\n\
+    leaf 1 2\n\
+    obligation 2\n\
+    leaf 5 3\n\
+    obligation 3\n\
+    leaf 3 4\n\
+    end\n\
+    ",
+        status: 5,
+        text: b"\
+    refused 2 line 5 bad clause 5\n\
+    ",
+    },
+    Beside {
+        command: "verify",
+        outline: NOTHING,
+        second: b"\
+    derivation 1\n\
+    obligation 1\n\
+    leaf 1 2\n\
+    obligation 2\n\
+    leaf 3 4\n\
+    obligation 3\n\
+    leaf 1 2 4\n\
+    end\n\
+    ",
+        status: 5,
+        text: b"\
+    refused 3 line 7 not unit 2\n\
+    ",
+    },
+    Beside {
+        command: "verify",
+        outline: NOTHING,
+        second: b"\
+    derivation 1\n\
+    obligation 1\n\
+    leaf 1 2\n\
+    obligation 2\n\
+    leaf 3 4\n\
+    end\n\
+    ",
+        status: 5,
+        text: b"\
+    missing 3\n\
+    ",
+    },
+    Beside {
+        command: "verify",
+        outline: NOTHING,
+        second: b"\
+    derivation 1\n\
+    obligation 1\n\
+    leaf 1 2\n\
+    obligation 2\n\
+    leaf 3 4\n\
+    obligation 3\n\
+    leaf 3 4\n\
+    obligation 4\n\
+    leaf 3 4\n\
+    end\n\
+    ",
+        status: 5,
+        text: b"\
+    extra 4\n\
+    ",
+    },
+    Beside {
+        command: "verify",
+        outline: NOTHING,
+        second: b"\
+    derivation 1\n\
+    obligation 1\n\
+    leaf 1 2\n\
+    obligation 2\n\
+    leaf 3 4\n\
+    obligation 3\n\
+    leaf 3 4\n\
+    ",
+        status: 4,
+        text: b"\
+    refused second 79 unexpected\n\
+    ",
+    },
+    Beside {
+        command: "verify",
+        outline: NOTHING,
+        second: b"",
+        status: 4,
+        text: b"\
+    refused second 0 unexpected\n\
+    ",
+    },
+    Beside {
+        command: "verify",
+        outline: NOTHING,
+        second: b"\
+    derivation 2\n\
+    ",
+        status: 4,
+        text: b"\
+    refused second version 2\n\
+    ",
+    },
+    Beside {
+        command: "verify",
+        outline: NOTHING,
+        second: b"\
+    derivation 1\n\
+    obligation 1\n\
+    split 1\n\
+    obligation 2\n\
+    leaf 3 4\n\
+    obligation 3\n\
+    leaf 3 4\n\
+    end\n\
+    ",
+        status: 5,
+        text: b"\
+    refused 1 line 3 ends early\n\
+    ",
+    },
+    // Steps that hold, that are violated, and that are refused: reads, swaps and crashes.
+    Beside {
+        command: "replay",
+        outline: UNFLUSHED,
+        second: TORN,
+        status: 1,
+        text: TORN_TRACE,
+    },
+    Beside {
+        command: "replay",
+        outline: OWN_READS,
+        second: b"\
+    schedule 1\n\
+    step 1\n\
+    step 1 at 1\n\
+    step 2\n\
+    step 2 at 2\n\
+    step 2 at 0\n\
+    step 1 at 0\n\
+    ",
+        status: 1,
+        text: b"\
+    2 1.1 > 1.2 write 1 at 1\n\
+    3 1.2 > 1.3 read 1\n\
+    4 2.1 > 2.2 write 1 at 2\n\
+    5 2.2 > 2.3 read 1\n\
+    6 2.3 > 2.4 read 0\n\
+    7 1.3 > 1.4 read 0\n\
+    violated line 7 at 1.4\n\
+    ",
+    },
+    Beside {
+        command: "replay",
+        outline: CHANGED,
+        second: b"\
+    schedule 1\n\
+    step 2\n\
+    ",
+        status: 5,
+        text: b"\
+    refused line 2 cas not last 0\n\
+    ",
+    },
+    Beside {
+        command: "replay",
+        outline: CHANGED,
+        second: b"\
+    schedule 1\n\
+    step 1\n\
+    step 2 at 0\n\
+    ",
+        status: 0,
+        text: b"\
+    2 1.1 > 1.2 write 1 at 1\n\
+    3 2.1 > 2.2 read 0\n\
+    held 2\n\
+    ",
+    },
+    Beside {
+        command: "replay",
+        outline: CHANGED,
+        second: b"\
+    schedule 1\n\
+    step 1\n\
+    step 2 at 1\n\
+    ",
+        status: 5,
+        text: b"\
+    2 1.1 > 1.2 write 1 at 1\n\
+    refused line 3 cas must differ 1\n\
+    ",
+    },
+    Beside {
+        command: "replay",
+        outline: READ_TWICE,
+        second: b"\
+    schedule 1\n\
+    step 1\n\
+    step 2 at 1\n\
+    step 2 at 0\n\
+    ",
+        status: 5,
+        text: b"\
+    2 1.1 > 1.2 write 1 at 1\n\
+    3 2.1 > 2.2 read 1\n\
+    refused line 4 below coherence 0 1\n\
+    ",
+    },
+    Beside {
+        command: "replay",
+        outline: WHOLE,
+        second: b"\
+    schedule 1\n\
+    step 1\n\
+    crash at 0 0\n\
+    step 1\n\
+    crash at 0 0\n\
+    ",
+        status: 5,
+        text: b"\
+    2 1.1 > 1.2 write 1 at 1\n\
+    3 crash x=0 y=0\n\
+    4 1.2 > 1.3\n\
+    refused line 5 overwritten x 0 1\n\
+    ",
+    },
+    Beside {
+        command: "replay",
+        outline: LOOP,
+        second: b"\
+    schedule 1\n\
+    step 1\n\
+    step 1\n\
+    ",
+        status: 0,
+        text: b"\
+    2 1.1 > 1.1\n\
+    3 1.1 > 1.1\n\
+    held 2\n\
+    ",
+    },
+    Beside {
+        command: "replay",
+        outline: SWAP,
+        second: b"\
+    schedule 1\n\
+    step 1\n\
+    ",
+        status: 0,
+        text: b"\
+    2 1.1 > 1.2 read 0 write 1 at 1\n\
+    held 1\n\
+    ",
+    },
+    Beside {
+        command: "replay",
+        outline: MESSAGE,
+        second: b"schedule 1\nstep 1\nstep 1\nstep 2 at 2\nstep 2 at 0\n",
+        status: 5,
+        text: b"2 1.1 > 1.2 write 1 at 1\n3 1.2 > 1.3 write 1 at 2\n4 2.1 > 2.2 read 1\nrefused line 5 hidden 0 1\n",
+    },
+    Beside {
+        command: "replay",
+        outline: MESSAGE,
+        second: b"schedule 1\nstep 1\nstep 2 at 1\n",
+        status: 5,
+        text: b"2 1.1 > 1.2 write 1 at 1\nrefused line 3 not a position 1\n",
+    },
+    // An outline is refused before its second file is read, and a document before the work.
+    Beside {
+        command: "replay",
+        outline: b"pierogi 9;",
+        second: b"schedule 9",
+        status: 3,
+        text: b"refused version 9\n",
+    },
+    Beside {
+        command: "replay",
+        outline: LOOP,
+        second: b"schedule 9",
+        status: 4,
+        text: b"refused second version 9\n",
+    },
+];
+
+// A room with an outline and a second file.
+fn room_of_two(
+    alloc: Global,
+    outline: &[u8],
+    second: &[u8],
+) -> Result<Vec<(String, Vec<u8>)>, AllocError> {
+    let mut files = Vec::new(alloc);
+    files.push((
+        String::from_str(alloc, "o")?,
+        Vec::from_slice(alloc, outline)?,
+    ))?;
+    files.push((
+        String::from_str(alloc, "d")?,
+        Vec::from_slice(alloc, second)?,
+    ))?;
+    Ok(files)
+}
+
+// Passes where a command on an outline and a second file ends so.
+fn is_answered_beside(alloc: Global, case: &'static Beside) -> Result<(), Fail> {
+    let mut room = QuietRoom::make(room_of_two(alloc, case.outline, case.second)?);
+    let mut out = QuietSink::make(alloc);
+    let status = status_of(alloc, &[case.command, "o", "d"], &mut room, &mut out)?;
+    agree((status, out.bytes()), (case.status, case.text), case.text)
+}
+
+#[test]
+fn second_files_are_answered(rt: HostRuntime) -> Result<(), Fail> {
+    for case in &BESIDE {
+        is_answered_beside(rt.alloc(), case)?;
+    }
+    Ok(())
+}
+
+// Passes where the call of the fetch with this number fails, and nothing is written.
+fn is_not_fetched(alloc: Global, command: &str, failing: u32) -> Result<(), Fail> {
+    let mut room = MemoryRoom::make(
+        room_of_two(alloc, NOTHING, NOTHING_DERIVED)?,
+        vec![in alloc; failing]?,
+    );
+    let mut out = QuietSink::make(alloc);
+    let status = status_of(alloc, &[command, "o", "d"], &mut room, &mut out)?;
+    agree((status, out.bytes().len()), (6, 0), command.as_bytes())
+}
+
+#[test]
+fn files_that_fail_are_told(rt: HostRuntime) -> Result<(), Fail> {
+    for command in ["verify", "replay"] {
+        is_not_fetched(rt.alloc(), command, 1)?;
+        is_not_fetched(rt.alloc(), command, 2)?;
+    }
+    Ok(())
+}
+
+// A command on an outline and a second file, whose text has so many lines, and its status.
+struct Whole {
+    words: &'static [&'static str],
+    outline: &'static [u8],
+    second: &'static [u8],
+    text: &'static [u8],
+    lines: u32,
+    status: u8,
+}
+
+static WHOLES: [Whole; 5] = [
+    Whole {
+        words: &["check", "o"],
+        outline: b"pierogi 1; values 2; location x = 0; pre L(x,0); thread 1 { [L(x,0)] x := 1; [L(x,0)] }",
+        second: b"",
+        text: STALE,
+        lines: 17,
+        status: 1,
+    },
+    Whole {
+        words: &["derive", "o"],
+        outline: NOTHING,
+        second: b"",
+        text: NOTHING_DERIVED,
+        lines: 8,
+        status: 0,
+    },
+    Whole {
+        words: &["verify", "o", "d"],
+        outline: NOTHING,
+        second: NOTHING_DERIVED,
+        text: b"verified 3\n",
+        lines: 1,
+        status: 0,
+    },
+    Whole {
+        words: &["replay", "o", "d"],
+        outline: UNFLUSHED,
+        second: TORN,
+        text: TORN_TRACE,
+        lines: 4,
+        status: 1,
+    },
+    Whole {
+        words: &["made", "1"],
+        outline: b"",
+        second: b"",
+        text: b"made 1\naccepted 12\nnodes 12\n",
+        lines: 3,
+        status: 0,
+    },
+];
+
+// Passes where the text is put up to the line that fails.
+fn is_cut_short(
+    alloc: Global,
+    whole: &'static Whole,
+    failing: u32,
+    status: u8,
+) -> Result<(), Fail> {
+    let mut room = QuietRoom::make(room_of_two(alloc, whole.outline, whole.second)?);
+    let mut out = MemorySink::make(alloc, vec![in alloc; failing]?);
+    let found = status_of(alloc, whole.words, &mut room, &mut out)?;
+    let wanted = first_lines(whole.text, failing.saturating_sub(1));
+    agree((found, out.bytes()), (status, wanted), wanted)
+}
+
+// Passes where each line that fails cuts the text there, and one behind the last cuts nothing.
+fn is_cut_at_lines(alloc: Global, whole: &'static Whole) -> Result<(), Fail> {
+    for before in 0..whole.lines {
+        is_cut_short(alloc, whole, before.saturating_add(1), 7)?;
+    }
+    is_cut_short(alloc, whole, whole.lines.saturating_add(1), whole.status)
+}
+
+#[test]
+fn failing_puts_cut_texts(rt: HostRuntime) -> Result<(), Fail> {
+    for whole in &WHOLES {
+        is_cut_at_lines(rt.alloc(), whole)?;
+    }
+    Ok(())
+}
+
+// Passes where a command has these statuses on the prefixes of a second file, from the empty one on.
+fn has_prefixes(
+    alloc: Global,
+    command: &str,
+    outline: &[u8],
+    second: &[u8],
+    statuses: &[u8],
+) -> Result<(), Fail> {
+    for (n, status) in statuses.iter().enumerate() {
+        let mut room = QuietRoom::make(room_of_two(
+            alloc,
+            outline,
+            second.get(..n).unwrap_or(second),
+        )?);
+        let mut out = QuietSink::make(alloc);
+        let found = status_of(alloc, &[command, "o", "d"], &mut room, &mut out)?;
+        agree(found, status.wrapping_sub(b'0'), statuses)?;
+    }
+    Ok(())
+}
+
+// The statuses of a command on the prefixes of a second file, as digits. A derivation is none before its last newline. A schedule is one
+// where no word is cut or missing; the machine refuses a crash without all its positions.
+const PREFIXES_OF_DERIVATION: &[u8] =
+    b"444444444444444444444444444444444444444444444444444444444444444444444444444444444440";
+
+const TWO_CRASHES: &[u8] = b"\
+    schedule 1\n\
+    step 1\n\
+    crash at 0 0\n\
+    step 1\n\
+    crash at 0 0\n\
+    ";
+
+const PREFIXES_OF_SCHEDULE: &[u8] = b"4444444444004444400444444455550044444004444444555555";
+
+#[test]
+fn prefixes_of_second_files_are_answered(rt: HostRuntime) -> Result<(), Fail> {
+    has_prefixes(
+        rt.alloc(),
+        "verify",
+        NOTHING,
+        NOTHING_DERIVED,
+        PREFIXES_OF_DERIVATION,
+    )?;
+    has_prefixes(
+        rt.alloc(),
+        "replay",
+        WHOLE,
+        TWO_CRASHES,
+        PREFIXES_OF_SCHEDULE,
+    )
+}
+
+const STORES: &[u8] =
+    b"pierogi 1; values 2; location x = 0; thread 1 { [true] while 0 = 0 { [true] x := 1; } [true] }";
+
+// A message is written by every other step, and the last one that is tried finds no room for its own.
+#[test]
+fn messages_are_limited(rt: HostRuntime) -> Result<(), Fail> {
+    let mut schedule = Vec::from_slice(rt.alloc(), b"schedule 1\n")?;
+    append(&mut schedule, 131_072, b"step 1\n")?;
+    let mut room = QuietRoom::make(room_of_two(rt.alloc(), STORES, &schedule)?);
+    let mut out = QuietSink::make(rt.alloc());
+    let status = status_of(rt.alloc(), &["replay", "o", "d"], &mut room, &mut out)?;
+    let line = b"refused line 131073 messages full\n";
+    agree((status, out.bytes().ends_with(line)), (5, true), line)
 }
