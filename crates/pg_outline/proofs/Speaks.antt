@@ -1,5 +1,5 @@
 -- The formulas of an outline speak of its program.
-use Rattle.std.proofs.Common.{◌≡◌, ℕ, zero, suc, ◌+◌, ◌<◌, ◌≤◌, ◌==◌, Bool, true, false, ◌&&◌, if◌then◌else◌, nat_le, List, [], ◌∷◌, length, map, get_or, None, Some, refl, arith}
+use Rattle.std.proofs.Common.{◌≡◌, ℕ, zero, suc, ◌+◌, ◌<◌, ◌≤◌, ◌==◌, Bool, true, false, ◌&&◌, if◌then◌else◌, nat_le, List, [], ◌∷◌, length, map, get_or, None, Some, Result, Ok, Err, IfOk, refl, sym, ap, subst, ◌∙◌, arith}
 use Rattle.std.specs.List.{All, flat_map, fold, range_with_len}
 use Rattle.std.proofs.lemmas.Bool.{leb-true}
 use Rattle.std.proofs.lemmas.List.Elements.{All-nil, All-cons, All-head, All-tail, All-append, All-map, All-weaker, All-filter}
@@ -9,15 +9,18 @@ use Rattle.pg_assertion.specs.declared.atom.ViewAtom.TheVariants as view
 use Rattle.pg_assertion.specs.declared.atom.CrashAtom.{CrashAtom}
 use Rattle.pg_assertion.specs.declared.atom.CrashAtom.TheVariants as crash
 use Rattle.pg_assertion.specs.declared.atom.RawAtom.{RawAtom}
-use Rattle.pg_assertion.specs.Formula.{Plain, top, bottom, atom, neg, both, either, implies, AllAtoms, with_atoms}
+use Rattle.pg_assertion.specs.declared.formula.Formula.{Formula}
+use Rattle.pg_assertion.specs.Formula.{Plain, plain, top, bottom, atom, neg, both, either, implies, AllAtoms, with_atoms}
 use Rattle.pg_assertion.specs.Atom.{raw_of, RawDeclared}
 use Rattle.pg_assertion.specs.Layout.{sizes, IsAtom, IsThreadNumber}
 use Rattle.pg_assertion.specs.Expansion.{mentions, named, vectors, constant, fill, conjunction, can_persist, term, expansion_over, expansion, IsAtomOf, value_in}
+use Rattle.pg_program.specs.Program.{ProgramTable}
+use Rattle.pg_outline.specs.declared.fault.OutlineFault.{OutlineFault}
 use Rattle.pg_outline.specs.declared.fault.OutlineFault.TheVariants.{UnknownThread}
 use Rattle.pg_outline.specs.Outline.{OutlineTable, IsSmall, draft_of}
 use Rattle.pg_outline.specs.Speaks.{IsOver, IsCrashOver}
-use Rattle.pg_outline.specs.Fault.{Fault, first_of, first_in, in_formula, atom_fault, crash_atom_fault, value_fault, thread_fault, locations_fault, size_fault, numbers_fault}
-use Rattle.pg_outline.specs.Made.{IsOutline}
+use Rattle.pg_outline.specs.Fault.{Fault, first_of, first_in, in_formula, atom_fault, crash_atom_fault, value_fault, thread_fault, locations_fault, size_fault, numbers_fault, assertion_fault}
+use Rattle.pg_outline.specs.Made.{IsOutline, Makes}
 use Rattle.pg_outline.proofs.Parts.{both_none, value_inside, atoms_inside}
 
 -- ---- over names and n threads
@@ -160,6 +163,14 @@ module _ (names : NameTable) (n : ℕ) where
   expansion_inside f h =
       over_inside (named (length names.locations) f) f
       (All-filter (λ x. mentions x f) Below (range_with_len 0 (length names.locations)) (range_below 0 (length names.locations) (omega arith))) h
+
+-- ---- one formula over a program
+
+pub made_speaks : (p : ProgramTable) (f : Plain RawAtom) (made : Result (Formula ViewAtom) OutlineFault)
+    → Makes (λ g. with_atoms raw_of (plain g)) f (assertion_fault p f) made → AllAtoms (RawDeclared p.names) f → IfOk made (λ g. IsOver p (plain g))
+made_speaks p f (Ok g) is declared =
+    formula_inside p.names (length p.threads) (plain g) (subst (AllAtoms (RawDeclared p.names)) (sym is.0) declared) (ap (assertion_fault p) is.0 ∙ is.1)
+made_speaks p f (Err e) is declared = tt
 
 -- ---- the formulas of an outline
 

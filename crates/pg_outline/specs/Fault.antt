@@ -8,6 +8,7 @@ use Rattle.pg_assertion.specs.declared.atom.CrashAtom.TheVariants as crash
 use Rattle.pg_assertion.specs.Formula.{Plain, top, bottom, atom, neg, both, either, implies, nodes}
 use Rattle.pg_assertion.specs.Expansion.{named, expansion}
 use Rattle.pg_program.specs.NameTable.{NameTable}
+use Rattle.pg_program.specs.Program.{ProgramTable}
 use Rattle.pg_outline.specs.declared.fault.OutlineFault.{OutlineFault}
 use Rattle.pg_outline.specs.declared.fault.OutlineFault.TheVariants.{ValueOutOfDomain, UnknownThread, CrashLocations, CrashNodes}
 use Rattle.pg_outline.specs.Limits.{most_crash_locations, most_expansion_nodes}
@@ -63,6 +64,10 @@ atom_fault d n (raw.Fenced t x) = thread_fault n t
 abbrev pub crash_atom_fault : ℕ → CrashAtom → Fault
 crash_atom_fault d (crash.Scalar r k) = value_fault d k
 crash_atom_fault d (crash.Location x v) = value_fault d v
+
+-- the first fault of an assertion over a program: a value outside the domain, or a thread that is not there
+abbrev pub assertion_fault : ProgramTable → Plain RawAtom → Fault
+assertion_fault p f = in_formula (atom_fault p.names.domain (length p.threads)) f
 
 -- ---- outlines
 

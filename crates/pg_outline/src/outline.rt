@@ -152,10 +152,7 @@ fn viewed_parts(
     ensures { let draft : Draft = record { program = program.now; pre = plain pre.now; crash = plain crash.now; notes = map (λ t. map plain t.items) notes.now } in
         AreParts draft result }
 {
-    let scope = Scope {
-        domain: program.names().domain(),
-        threads: program.threads(),
-    };
+    let scope = Scope::of(program);
     let pre = viewed(alloc, scope, pre)?;
     check_crash(scope, crash)?;
     let notes = viewed_threads(alloc, scope, notes)?;

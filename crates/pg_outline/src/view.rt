@@ -1,14 +1,16 @@
-//! The formulas of a text, made formulas over the outline's values and threads.
+//! The formulas of a text, made formulas over a program's values and threads.
 
-ghost use Rattle.std.specs.Prelude.{◌≡◌, ◌≤◌, map};
+ghost use Rattle.std.specs.Prelude.{◌≡◌, ◌≤◌, length, map, IfOk};
 ghost use Rattle.pg_program.specs.Limits.{largest_domain_2, most_threads};
-ghost use Rattle.pg_assertion.specs.Formula.{plain, with_atoms};
-ghost use Rattle.pg_assertion.specs.Atom.{raw_of};
-ghost use Rattle.pg_outline.specs.Fault.{value_fault, thread_fault, atom_fault, crash_atom_fault, in_formula, first_in};
+ghost use Rattle.pg_assertion.specs.Formula.{plain, with_atoms, AllAtoms};
+ghost use Rattle.pg_assertion.specs.Atom.{raw_of, RawDeclared};
+ghost use Rattle.pg_outline.specs.Fault.{value_fault, thread_fault, atom_fault, crash_atom_fault, in_formula, first_in, assertion_fault};
 ghost use Rattle.pg_outline.specs.Made.{Makes, Checks};
+ghost use Rattle.pg_outline.specs.Speaks.{IsOver};
 
 use crate::fault::OutlineFault;
 use pg_assertion::{CrashAtom, Formula, RawAtom, ViewAtom};
+use pg_program::Program;
 use std::alloc::Global;
 
 /// What atoms may speak of: the values below the size of the domain, and the threads from 1.
@@ -19,6 +21,18 @@ pub struct Scope {
 }
 
 impl Scope {
+    /// The values and the threads of a program.
+    pub fn of(program: &Program) -> Scope
+        ensures domain { result.domain ≡ program.now.names.domain }
+        ensures threads { result.threads ≡ length program.now.threads }
+        ensures small { (result.domain ≤ largest_domain_2) × (result.threads ≤ most_threads) }
+    {
+        Scope {
+            domain: program.names().domain(),
+            threads: program.threads(),
+        }
+    }
+
     fn value(self, v: u32) -> Result<u8, OutlineFault>
         requires { self.domain ≤ largest_domain_2 }
         ensures { Makes (λ k. k) v (value_fault self.domain v) result }
@@ -90,6 +104,22 @@ fn viewed_atom(scope: Scope, atom: RawAtom) -> Result<ViewAtom, OutlineFault>
             x,
         },
     })
+}
+
+/// The assertion over a program that a formula, as a text has it, is: the same formula, with its values and threads in the types that
+/// a state has them in. `Outline::build` makes those of an outline so. A value outside the domain or a thread that the program does
+/// not have is refused, and of several the first one in the order of the text. It takes memory for each connective.
+///
+/// Whether its names are declared is not tested, since a formula that was read over the names of the program speaks of no others.
+pub fn assertion_over(
+    alloc: Global,
+    program: &Program,
+    f: &Formula<RawAtom>,
+) -> Result<Formula<ViewAtom>, OutlineFault>
+    ensures made { Makes (λ g. with_atoms raw_of (plain g)) (plain f.now) (assertion_fault program.now (plain f.now)) result }
+    ensures speaks { AllAtoms (RawDeclared program.now.names) (plain f.now) → IfOk result (λ g. IsOver program.now (plain g)) }
+{
+    viewed(alloc, Scope::of(program), f)
 }
 
 /// An assertion.
