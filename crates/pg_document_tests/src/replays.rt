@@ -433,13 +433,17 @@ fn are_replayed(alloc: Global, o: &Outline, group: &Group) -> Result<(), Fail> {
     Ok(())
 }
 
-#[test]
-fn schedules_are_replayed(rt: HostRuntime) -> Result<(), Fail> {
-    let alloc = rt.alloc();
-    for group in &GROUPS {
+/// Passes where each replay of each group is as is wanted.
+fn groups_are_replayed(alloc: Global, groups: &[Group]) -> Result<(), Fail> {
+    for group in groups {
         on(alloc, group.outline, |o| are_replayed(alloc, o, group))?;
     }
     Ok(())
+}
+
+#[test]
+fn schedules_are_replayed(rt: HostRuntime) -> Result<(), Fail> {
+    groups_are_replayed(rt.alloc(), &GROUPS)
 }
 
 /// A loop that stores at every second step.

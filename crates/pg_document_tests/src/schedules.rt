@@ -82,12 +82,17 @@ static REFUSED: [(&[u8], DocFault); 44] = [
     ),
 ];
 
-#[test]
-fn other_texts_have_a_first_fault(rt: HostRuntime) -> Result<(), Fail> {
-    for (text, fault) in &REFUSED {
-        agree(fault_of(rt.alloc(), *text)?, Some(*fault), *text)?;
+/// Passes where each text has this first fault.
+fn are_refused(alloc: Global, cases: &[(&[u8], DocFault)]) -> Result<(), Fail> {
+    for (text, fault) in cases {
+        agree(fault_of(alloc, *text)?, Some(*fault), *text)?;
     }
     Ok(())
+}
+
+#[test]
+fn other_texts_have_a_first_fault(rt: HostRuntime) -> Result<(), Fail> {
+    are_refused(rt.alloc(), &REFUSED)
 }
 
 /// Schedules, and their canonical texts.
@@ -118,13 +123,22 @@ fn printed(alloc: Global, text: &[u8]) -> Result<Vec<u8>, Fail> {
     Ok(print_schedule(alloc, &s)?)
 }
 
-#[test]
-fn schedules_have_their_spelling(rt: HostRuntime) -> Result<(), Fail> {
-    for (text, spelling) in &SPELLINGS {
-        let found = printed(rt.alloc(), *text)?;
-        agree(found.as_slice(), *spelling, *text)?;
-        let again = printed(rt.alloc(), &found)?;
-        agree(again.as_slice(), *spelling, *spelling)?;
+/// Passes where a schedule has this canonical text.
+fn is_spelled(alloc: Global, text: &[u8], spelling: &[u8]) -> Result<(), Fail> {
+    let found = printed(alloc, text)?;
+    agree(found.as_slice(), spelling, text)
+}
+
+/// Passes where each schedule has this canonical text, and so has that text itself.
+fn are_spelled(alloc: Global, cases: &[(&[u8], &[u8])]) -> Result<(), Fail> {
+    for (text, spelling) in cases {
+        is_spelled(alloc, *text, *spelling)?;
+        is_spelled(alloc, *spelling, *spelling)?;
     }
     Ok(())
+}
+
+#[test]
+fn schedules_have_their_spelling(rt: HostRuntime) -> Result<(), Fail> {
+    are_spelled(rt.alloc(), &SPELLINGS)
 }

@@ -195,13 +195,17 @@ fn are_answered(alloc: Global, o: &Outline, group: &Group) -> Result<(), Fail> {
     Ok(())
 }
 
-#[test]
-fn trees_are_checked(rt: HostRuntime) -> Result<(), Fail> {
-    let alloc = rt.alloc();
-    for group in &GROUPS {
+/// Passes where the check of each derivation of each group has its answer.
+fn groups_are_answered(alloc: Global, groups: &[Group]) -> Result<(), Fail> {
+    for group in groups {
         on(alloc, group.outline, |o| are_answered(alloc, o, group))?;
     }
     Ok(())
+}
+
+#[test]
+fn trees_are_checked(rt: HostRuntime) -> Result<(), Fail> {
+    groups_are_answered(rt.alloc(), &GROUPS)
 }
 
 /// The first fault of the first tree of a derivation, where the region has no clauses.
@@ -246,12 +250,22 @@ fn fault_over(
     fault_of(alloc, o, d, &mut trail)
 }
 
+/// The same, of the text of a derivation.
+fn first_fault(
+    alloc: Global,
+    o: &Outline,
+    text: &[u8],
+    atoms: u32,
+) -> Result<Option<TreeFault>, Fail> {
+    let d = derivation(alloc, text)?;
+    fault_over(alloc, o, &d, atoms)
+}
+
 /// Passes where a trail for six atoms is too short for the first tree of a derivation, and one for seven is not.
 fn needs_seven(alloc: Global, o: &Outline, text: &[u8]) -> Result<(), Fail> {
-    let d = derivation(alloc, text)?;
-    let short = fault_over(alloc, o, &d, 6)?;
+    let short = first_fault(alloc, o, text, 6)?;
     agree(short, Some(TreeFault::TrailFull(6)), text)?;
-    let enough = fault_over(alloc, o, &d, 7)?;
+    let enough = first_fault(alloc, o, text, 7)?;
     agree(enough, None, text)
 }
 
