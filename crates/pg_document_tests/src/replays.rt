@@ -30,7 +30,7 @@ struct Group {
     cases: &'static [Case],
 }
 
-/// Assertions that do not hold behind a store, and a crash formula that does not hold of any memory in which x has its first value.
+/// Assertions that do not hold behind the first store, and a crash formula that does not hold before it.
 const BROKEN: &[u8] = b"pierogi 1; values 2; location x = 0; location y = 0; crash x = 1 & y = 0; \
 thread 1 { [true] x := 1; [L(x,0)] y := 1; [L(x,0)] mfence; [true] }";
 

@@ -164,17 +164,13 @@ static GROUPS: [Group; 3] = [
 ];
 
 /// The answer to the check of a derivation.
-pub fn answer_to(
-    alloc: Global,
-    o: &Outline,
-    text: &[u8],
-) -> Result<Result<u32, VerifyFault>, Fail> {
+fn answer_to(alloc: Global, o: &Outline, text: &[u8]) -> Result<Result<u32, VerifyFault>, Fail> {
     let d = derivation(alloc, text)?;
     Ok(verify(alloc, o, &d))
 }
 
 /// An answer in words.
-pub fn written(alloc: Global, answer: Result<u32, VerifyFault>) -> Result<String, AllocError> {
+fn written(alloc: Global, answer: Result<u32, VerifyFault>) -> Result<String, AllocError> {
     match answer {
         Ok(count) => format!(in alloc; "proved {count}"),
         Err(fault) => format!(in alloc; "{fault}"),
