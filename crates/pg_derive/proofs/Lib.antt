@@ -5,4 +5,6 @@ mod Leaves
 mod Whole
 mod Parts
 mod Desks
+mod Grammar
+mod Counts
 mod Verified

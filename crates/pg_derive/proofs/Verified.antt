@@ -1,14 +1,14 @@
 -- Derivations that are verified.
-use Rattle.std.proofs.Common.{◌≡◌, ℕ, zero, suc, ◌+◌, ◌-◌, ◌<◌, ◌≤◌, Bool, true, Option, Some, None, List, [], ◌∷◌, ◌++◌, length, map, get_or, refl, sym, ap, ap₂, subst, ◌∙◌, arith, append_assoc, inl, inr, ◌⊎◌}
-use Rattle.std.specs.Prelude.{Result, Ok, Err}
+use Rattle.std.proofs.Common.{◌≡◌, ℕ, zero, suc, ◌+◌, ◌-◌, ◌<◌, ◌≤◌, Bool, true, Some, None, List, [], ◌∷◌, length, get_or, refl, sym, ap, ap₂, subst, ◌∙◌, arith, append_assoc, inl, inr}
+use Rattle.std.specs.Prelude.{Ok, Err}
 use Rattle.std.proofs.lemmas.Bool.{cases_order}
 use Rattle.std.proofs.lemmas.List.{length-map}
 use Rattle.std.proofs.lemmas.List.Elements.{All-from_get_or}
-use Rattle.pg_program.specs.Limits.{most_scalars}
-use Rattle.pg_region.specs.Literal.{Literal}
-use Rattle.pg_decider.specs.Laws.{AreOver}
-use Rattle.pg_derivation.specs.Derivation.{Node, TreeTable, DerivationTable, tree_at, nodes_of, trees_of}
+use Rattle.pg_program.specs.NameTable.{IsNameTable}
+use Rattle.pg_derivation.specs.Derivation.{Node, TreeTable, DerivationTable, AreNodes, tree_at, nodes_of, trees_of}
+use Rattle.pg_derivation.specs.Fault.{derivation_of}
 use Rattle.pg_derivation.specs.Text.{header_text, trees_text, text_of, end_text}
+use Rattle.pg_derivation.proofs.Spelled.{spelled_is_found}
 use Rattle.pg_tree.specs.Valid.{AreValid}
 use Rattle.pg_tree.specs.declared.fault.TreeFault.{TreeFault}
 use Rattle.pg_tree.proofs.Validity.{no-fault-valid, unsatisfiable, written-valid}
@@ -18,19 +18,20 @@ use Rattle.pg_outline.specs.Made.{IsOutline}
 use Rattle.pg_obligations.specs.declared.obligation.Obligation.{Obligation}
 use Rattle.pg_obligations.specs.declared.obligation.Obligation.TheVariants.{Fresh}
 use Rattle.pg_obligations.specs.Obligations.{obligations}
-use Rattle.pg_obligations.specs.Follow.{Follows, AllFollow}
-use Rattle.pg_layers.specs.Clauses.{entailment_of, obligation, obligation_clauses, obligation_atoms, rules_of}
+use Rattle.pg_obligations.specs.Follow.{Follows}
+use Rattle.pg_layers.specs.Clauses.{entailment_of, obligation, obligation_clauses, obligation_atoms}
 use Rattle.pg_layers.proofs.Law.{clauses_decide}
-use Rattle.pg_judge.specs.Outcome.{obligation_count, accepted}
-use Rattle.pg_judge.specs.Laws.{IsProved}
+use Rattle.pg_layers.proofs.Members.{is_obligation}
+use Rattle.pg_judge.specs.Outcome.{obligation_count}
 use Rattle.pg_judge.proofs.Accepted.{is-obligation, follow-proved}
 use Rattle.pg_judge.proofs.Rejected.{clauses-over}
 use Rattle.pg_judge.proofs.Truths.{whole, all-met}
-use Rattle.pg_derive.specs.declared.fault.VerifyFault.{VerifyFault}
 use Rattle.pg_derive.specs.declared.fault.VerifyFault.TheVariants.{Tree, Missing, Extra, NoMemory}
-use Rattle.pg_derive.specs.Derived.{IsDerivedTree, IsDerivation}
-use Rattle.pg_derive.specs.Verified.{IsValidFor, fault_for, AreFirstValid, IsVerified, HasFault, IsMissing, IsExtra, IsAnswer}
-use Rattle.pg_derive.specs.Laws.{AnswerIsUnique, VerifiedIsProved, SpellsVerified, DerivedIsVerified}
+use Rattle.pg_derive.specs.Derived.{IsDerivedTree}
+use Rattle.pg_derive.specs.Verified.{IsValidFor, AreFirstValid, IsVerified, HasFault, IsMissing, IsExtra}
+use Rattle.pg_derive.specs.Laws.{AnswerIsUnique, VerifiedIsProved, DerivedIsVerified}
+use Rattle.pg_derive.proofs.Grammar.{each-from, valid-fits}
+use Rattle.pg_derive.proofs.Counts.{AreCounted, within-limits, obligations-few, atoms-few, obligation-few}
 
 -- ---- a valid tree
 
@@ -134,9 +135,27 @@ derived-valid : (o : OutlineTable) (i : ℕ) (nodes : List Node) → IsOutline o
 derived-valid o i nodes made from to h =
     written-valid (obligation_atoms o (obligation o i)) (obligation_clauses o (obligation o i)) h.log nodes (clauses-over o i made from to) h.is h.written
 
-pub derived-verified : DerivedIsVerified
-derived-verified o count nodes text made all h = record { trees = h.trees; spelled = h.spelled ∙ append_assoc header_text (trees_text 1 h.trees) end_text; verified = verified }
+derived-fits : AreCounted → (o : OutlineTable) (i : ℕ) (nodes : List Node) → IsOutline o → IsNameTable o.program.names → 1 ≤ i → i ≤ obligation_count o → IsDerivedTree o i nodes → AreNodes nodes
+derived-fits most o i nodes made table from to h =
+    let ob = obligation o i in
+    let limits = within-limits o made table in
+    let is = is_obligation o.program ob (is-obligation o i from to) in
+    valid-fits (obligation_atoms o ob) (obligation_clauses o ob) (atoms-few o made limits ob) (obligation-few o made limits most ob is) nodes (derived-valid o i nodes made from to h)
+
+pub derived-verified : AreCounted → DerivedIsVerified
+derived-verified most o count nodes text made table all h = record { trees = h.trees; spelled = spelled; found = found; verified = verified }
   where
+    spelled : text ≡ text_of h.trees
+    spelled = h.spelled ∙ append_assoc header_text (trees_text 1 h.trees) end_text
+
+    fits : (k : ℕ) → k < length h.trees → AreNodes (get_or h.trees k [])
+    fits k lt = derived-fits most o (k + 1) (get_or h.trees k []) made table (omega arith) (omega (arith, lt, h.all, all)) (h.are k lt)
+
+    found : derivation_of text ≡ Ok h.trees
+    found =
+        ap derivation_of spelled
+        ∙ spelled_is_found h.trees (omega (arith, h.all, all, obligations-few o.program made.draft.program), each-from AreNodes h.trees [] fits)
+
     verified : (d : DerivationTable) → trees_of d ≡ h.trees → IsVerified o d count
     verified d e = record {
       trees = sym (length-map d nodes_of) ∙ (ap (λ (ts : List (List Node)). length ts) e ∙ h.all);
