@@ -7,4 +7,5 @@ mod Parts
 mod Desks
 mod Grammar
 mod Counts
+mod Full
 mod Verified

@@ -1,10 +1,11 @@
 -- What a derivation is answered for an outline: whether it has one tree for each obligation, in their order, and no other, and each is
 -- valid for its own obligation.
-use Rattle.std.specs.Prelude.{◌≡◌, ℕ, ◌+◌, ◌-◌, ◌≤◌, Option, Some, Result, Ok, Err, length}
+use Rattle.std.specs.Prelude.{◌≡◌, ◌≢◌, ℕ, ◌+◌, ◌-◌, ◌≤◌, Option, Some, Result, Ok, Err, length}
 use Rattle.pg_derivation.specs.Derivation.{TreeTable, DerivationTable, tree_at, nodes_of}
 use Rattle.pg_tree.specs.Valid.{AreValid}
 use Rattle.pg_tree.specs.Fault.{tree_fault}
 use Rattle.pg_tree.specs.declared.fault.TreeFault.{TreeFault}
+use Rattle.pg_tree.specs.declared.fault.TreeFault.TheVariants.{TrailFull}
 use Rattle.pg_outline.specs.Outline.{OutlineTable}
 use Rattle.pg_layers.specs.Clauses.{obligation, obligation_clauses, obligation_atoms}
 use Rattle.pg_judge.specs.Outcome.{obligation_count}
@@ -56,6 +57,10 @@ IsAnswer o d (Err (Tree i first)) = HasFault o d i first
 IsAnswer o d (Err (Missing i)) = IsMissing o d i
 IsAnswer o d (Err (Extra i)) = IsExtra o d i
 IsAnswer o d (Err NoMemory) = Unit {0}
+
+-- no tree is refused for want of room on the trail
+abbrev pub IsNeverFull : Result ℕ VerifyFault → Type 0
+IsNeverFull r = (i room : ℕ) → r ≢ Err (Tree i (TrailFull room))
 
 -- the first k trees are valid, or the first that is not has this fault
 abbrev pub AreChecked : OutlineTable → DerivationTable → ℕ → Result (Unit {0}) VerifyFault → Type 0

@@ -4,7 +4,7 @@ ghost use Rattle.std.specs.Prelude.{◌≡◌, ◌≤◌, IfOk, length};
 ghost use Rattle.pg_judge.specs.Laws.{IsProved};
 ghost use Rattle.pg_judge.specs.Outcome.{obligation_count};
 ghost use Rattle.pg_derive.specs.Desk.{IsSet};
-ghost use Rattle.pg_derive.specs.Verified.{IsAnswer, AreChecked};
+ghost use Rattle.pg_derive.specs.Verified.{IsAnswer, IsNeverFull, AreChecked};
 
 use crate::desk::Desk;
 use crate::fault::VerifyFault;
@@ -14,9 +14,11 @@ use pg_outline::Outline;
 use std::alloc::Global;
 
 /// Checks each tree of a derivation against the obligation with its number, in their order, and then that there are no fewer and no
-/// more trees than obligations. Answers how many there are.
+/// more trees than obligations. Answers how many there are. The trail has room for the atoms of each obligation, so no tree is
+/// refused for want of it.
 pub fn verify(alloc: Global, o: &Outline, d: &Derivation) -> Result<u32, VerifyFault>
     ensures answer { IsAnswer o.now d.now result }
+    ensures room { IsNeverFull result }
     ensures proved { IfOk result (λ _. IsProved o.now) }
 {
     let _scalars = o.program().names().scalars();

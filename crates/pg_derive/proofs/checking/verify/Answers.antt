@@ -1,4 +1,4 @@
-use Rattle.std.proofs.Common.{◌≡◌, ◌≤◌, length, ap, subst, ◌∙◌, arith}
+use Rattle.std.proofs.Common.{◌≤◌, length, ap, subst, ◌∙◌, arith}
 use Rattle.pg_program.specs.Limits.{most_scalars}
 use Rattle.pg_program.specs.NameTable.{NameTable}
 use Rattle.pg_program.specs.Program.{ProgramTable}
@@ -6,6 +6,7 @@ use Rattle.pg_outline.specs.Outline.{OutlineTable}
 use Rattle.pg_judge.specs.Outcome.{obligation_count}
 use Rattle.pg_derive.specs.Verified.{AreFirstValid}
 use Rattle.pg_derive.proofs.Desks.{is-missing, is-extra, is-verified}
+use Rattle.pg_derive.proofs.Full.{checked-never-full}
 use Rattle.pg_derive.proofs.Verified.{verified-proved}
 use Rattle.pg_derive.proofs.checking.verify.Goals as goal
 
@@ -33,3 +34,13 @@ returns-clause-proved c =
     (is-verified o c.args.d.now c.trees-trees.result c.count-count.result c.trees-trees.ensures.count (c.count-count.ensures ∙ ap obligation_count c.of.ensures)
     (omega (arith, c.if-trees-count.false)) (omega (arith, c.if-count-trees.false))
     (subst (λ (q : OutlineTable). AreFirstValid q c.args.d.now c.count-count.result) c.in_ok-desk.ensures.outline c.in_ok-check_trees-2.ensures))
+
+pub returns-in_err-check_trees-clause-room : goal.returns-in_err-check_trees-clause-room
+returns-in_err-check_trees-clause-room c =
+    checked-never-full c.in_ok-desk.desk.loader.outline c.args.d.now c.trees-trees.result c.in_err-check_trees.field-0.0 c.from_residual-in_err-check_trees.result c.in_err-check_trees.ensures
+    c.from_residual-in_err-check_trees.ensures.1
+
+pub returns-in_err-check_trees-2-clause-room : goal.returns-in_err-check_trees-2-clause-room
+returns-in_err-check_trees-2-clause-room c =
+    checked-never-full c.in_ok-desk.desk.loader.outline c.args.d.now c.count-count.result c.in_err-check_trees-2.field-0.0 c.from_residual-in_err-check_trees-2.result c.in_err-check_trees-2.ensures
+    c.from_residual-in_err-check_trees-2.ensures.1
