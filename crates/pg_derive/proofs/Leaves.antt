@@ -1,10 +1,10 @@
 -- Where the closure of a set has a conflict, there are clauses that lead from the set to one, none of them in vain.
-use Rattle.std.proofs.Common.{◌≡◌, ℕ, zero, suc, ◌+◌, ◌-◌, ◌<◌, ◌≤◌, Bool, true, false, not, ◌&&◌, ◌||◌, List, [], ◌∷◌, length, refl, sym, ap, subst, ◌∙◌, arith, inl, inr, ◌⊎◌}
+use Rattle.std.proofs.Common.{◌≡◌, ℕ, zero, suc, ◌+◌, ◌-◌, ◌<◌, ◌≤◌, Bool, true, false, not, ◌&&◌, ◌||◌, List, [], ◌∷◌, length, refl, sym, ap, subst, arith, inl, inr, ◌⊎◌}
 use Rattle.std.proofs.lemmas.Bool.{cases_Bool, both_ways, and_from, and_parts, or_left, or_right, or_cases, false_from_ne_true}
 use Rattle.pg_region.specs.Literal.{Literal, same, negated}
 use Rattle.pg_region.specs.Region.{clause_at}
 use Rattle.pg_decider.specs.Assignment.{Assignment, on, added, Within, Forces, IsUnit, AreFalse, HasConflict, IsClosed, IsClosure}
-use Rattle.pg_decider.specs.Leaf.{stands_negated, Adds, IsLeaf}
+use Rattle.pg_decider.specs.Leaf.{stands_negated, IsLeaf}
 use Rattle.pg_decider.specs.Split.{free, bit}
 use Rattle.pg_decider.proofs.Literals.{same-is, same-refl, same-cases, negated-negated, added-cases, added-here}
 

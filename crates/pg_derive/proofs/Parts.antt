@@ -1,8 +1,7 @@
 -- The parts of a derivation, one after the other.
-use Rattle.std.proofs.Common.{◌≡◌, ℕ, zero, suc, ◌+◌, ◌-◌, ◌<◌, ◌≤◌, List, [], ◌∷◌, ◌++◌, length, Option, refl, sym, ap, subst, ◌∙◌, arith, append_assoc, inl, inr, ◌⊎◌}
-use Rattle.std.specs.Prelude.{Result, Ok, Err}
+use Rattle.std.proofs.Common.{◌≡◌, ℕ, ◌+◌, ◌<◌, ◌≤◌, List, [], ◌++◌, length, Option, refl, sym, ap, subst, ◌∙◌, arith, inl, inr}
+use Rattle.std.specs.Prelude.{Result, Err}
 use Rattle.std.proofs.lemmas.List.{append-nil}
-use Rattle.pg_io.specs.Written.{appended, AppendsPart}
 use Rattle.pg_region.specs.Literal.{Literal}
 use Rattle.pg_region.specs.Region.{RegionTable}
 use Rattle.pg_region.specs.Sink.{sink_of}
@@ -29,7 +28,7 @@ use Rattle.pg_derive.specs.Puts.{Puts, PutsText, PutsPart}
 use Rattle.pg_derive.specs.Derived.{IsDerivation, IsDerivationUnder}
 use Rattle.pg_derive.specs.Begun.{IsFirstText, IsSomeText, IsWholeText, IsPartText, AreTexts, IsBegun, IsEndText, IsTurned, closed_at, end_line}
 use Rattle.pg_derive.specs.SoFar.{IsSoFar}
-use Rattle.pg_derive.proofs.Pieces.{appended-nothing, text-behind, part-longer, whole-part, fault-behind, puts-behind}
+use Rattle.pg_derive.proofs.Pieces.{appended-nothing, text-behind, part-longer, fault-behind, puts-behind}
 use Rattle.pg_derive.proofs.Texts.{none-first, no-texts, texts-more}
 use Rattle.pg_derive.proofs.Whole.{goes-on}
 

@@ -5,7 +5,7 @@ use Rattle.std.proofs.lemmas.List.{append-nil, take_all}
 use Rattle.pg_io.specs.Written.{appended, AppendsPart}
 use Rattle.pg_derive.specs.declared.fault.DeriveFault.{DeriveFault}
 use Rattle.pg_derive.specs.declared.fault.DeriveFault.TheVariants.{Write, NoMemory}
-use Rattle.pg_derive.specs.Puts.{Puts, PutsText, PutsPart}
+use Rattle.pg_derive.specs.Puts.{Puts, PutsPart}
 
 pub appended-nothing : (o : Option (List ℕ)) → appended o [] ≡ o
 appended-nothing None = refl

@@ -1,10 +1,10 @@
 -- Texts of derivations, line by line and tree by tree.
-use Rattle.std.proofs.Common.{◌≡◌, ℕ, zero, suc, ◌+◌, ◌<◌, ◌≤◌, List, [], ◌∷◌, ◌++◌, length, get_or, refl, sym, ap, subst, ◌∙◌, arith, append_assoc, length-append, inl, inr, ◌⊎◌}
+use Rattle.std.proofs.Common.{◌≡◌, ℕ, suc, ◌+◌, ◌<◌, List, [], ◌∷◌, ◌++◌, length, get_or, refl, sym, ap, subst, ◌∙◌, arith, append_assoc, length-append, inl, inr}
 use Rattle.std.proofs.lemmas.Bool.{cases_eq}
 use Rattle.std.proofs.lemmas.List.{append-nil, get_or_append_left}
 use Rattle.std.proofs.Math.Seq.{get_or-append_seam}
 use Rattle.pg_region.specs.Literal.{Literal}
-use Rattle.pg_decider.specs.Leaf.{IsLog, path_of}
+use Rattle.pg_decider.specs.Leaf.{path_of}
 use Rattle.pg_decider.specs.declared.log.TreeNode.{TreeNode}
 use Rattle.pg_decider.specs.declared.log.TreeNode.TheVariants.{Leaf}
 use Rattle.pg_derivation.specs.Derivation.{Node, leaf}
@@ -12,8 +12,8 @@ use Rattle.pg_derivation.specs.Text.{header_text, obligation_text, node_text, no
 use Rattle.pg_tree.specs.Laws.{IsWritten, AreWritten}
 use Rattle.pg_outline.specs.Outline.{OutlineTable}
 use Rattle.pg_layers.specs.Clauses.{obligation, obligation_clauses}
-use Rattle.pg_derive.specs.Derived.{IsDerivedTree, AreDerivedTrees, begun_text}
-use Rattle.pg_derive.specs.Begun.{IsNodeText, AreFirst, IsFirstText, IsSomeText, IsWholeText, IsPartText, AreTexts}
+use Rattle.pg_derive.specs.Derived.{IsDerivedTree, begun_text}
+use Rattle.pg_derive.specs.Begun.{IsNodeText, AreFirst, IsFirstText, IsWholeText, AreTexts}
 
 -- a fact of each place of a list that is one longer
 pub each-more : {T : Type 0} (P : ℕ → T → Type 0) (xs : List T) (x d : T) → ((k : ℕ) → k < length xs → P k (get_or xs k d)) → P (length xs) x

@@ -1,7 +1,6 @@
 -- The lines of a tree, one after the other.
-use Rattle.std.proofs.Common.{◌≡◌, ℕ, ◌+◌, ◌-◌, ◌<◌, ◌≤◌, List, [], ◌∷◌, ◌++◌, length, get_or, Option, refl, sym, ap, subst, ◌∙◌, arith}
-use Rattle.std.specs.Prelude.{Result, Ok, Err}
-use Rattle.pg_io.specs.Written.{appended, AppendsPart}
+use Rattle.std.proofs.Common.{◌≡◌, ℕ, ◌+◌, ◌-◌, ◌<◌, ◌≤◌, List, [], ◌++◌, length, get_or, Option, refl, sym, subst, arith}
+use Rattle.std.specs.Prelude.{Err}
 use Rattle.pg_region.specs.Literal.{Literal}
 use Rattle.pg_decider.specs.Assignment.{on}
 use Rattle.pg_decider.specs.Leaf.{IsLeaf, path_of}

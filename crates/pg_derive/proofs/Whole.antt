@@ -1,5 +1,5 @@
 -- A text of a derivation that is begun can be gone on with, to the text of the outcome.
-use Rattle.std.proofs.Common.{◌≡◌, ℕ, zero, suc, ◌+◌, ◌-◌, ◌<◌, ◌≤◌, Bool, true, false, ◌||◌, Option, Some, None, List, [], ◌∷◌, ◌++◌, length, get_or, refl, sym, ap, subst, ◌∙◌, arith, append_assoc, length-append, inl, inr, ◌⊎◌}
+use Rattle.std.proofs.Common.{◌≡◌, ℕ, zero, suc, ◌+◌, ◌-◌, ◌<◌, ◌≤◌, true, false, Option, Some, None, List, [], ◌∷◌, ◌++◌, length, get_or, refl, sym, ap, subst, ◌∙◌, arith, append_assoc, length-append, inl, inr, ◌⊎◌}
 use Rattle.std.proofs.lemmas.Bool.{cases_Bool, cases_eq, cases_lt, both_ways, or_cases}
 use Rattle.std.proofs.lemmas.List.{append-nil}
 use Rattle.pg_region.specs.Literal.{Literal}
@@ -12,12 +12,12 @@ use Rattle.pg_decider.specs.declared.log.TreeNode.TheVariants.{Split, Leaf}
 use Rattle.pg_decider.proofs.Existing.{small-tree-exists}
 use Rattle.pg_decider.proofs.Standing.{leaf-shut}
 use Rattle.pg_derivation.specs.Derivation.{Node, split, leaf}
-use Rattle.pg_derivation.specs.Text.{obligation_text, nodes_text, end_text}
+use Rattle.pg_derivation.specs.Text.{obligation_text, nodes_text}
 use Rattle.pg_tree.specs.Laws.{IsWritten, AreWritten}
 use Rattle.pg_outline.specs.Outline.{OutlineTable}
 use Rattle.pg_layers.specs.Clauses.{obligation, obligation_clauses, obligation_atoms}
 use Rattle.pg_judge.specs.Outcome.{Outcome, accepted, rejected, spent, obligation_count, IsTreeOf, IsClosed, AreClosed, IsNext, IsOutcome, truths_of}
-use Rattle.pg_derive.specs.Derived.{IsDerivationUnder, begun_text, closed_by, end_of}
+use Rattle.pg_derive.specs.Derived.{IsDerivationUnder, closed_by, end_of}
 use Rattle.pg_derive.specs.Begun.{AreFirst, IsFirstText, IsWholeText, IsPartText, AreTexts, IsBegun}
 use Rattle.pg_derive.proofs.Texts.{nodes-append, one-more, all-written, texts-more}
 use Rattle.pg_derive.proofs.Leaves.{leaf-exists}

@@ -1,12 +1,10 @@
 -- The derivation of an outline under a budget: for each obligation that is closed its plain tree, with clauses that close each leaf.
-use Rattle.std.specs.Prelude.{◌≡◌, ℕ, ◌+◌, ◌-◌, ◌<◌, ◌≤◌, List, [], ◌∷◌, ◌++◌, length, slice_index_or}
-use Rattle.pg_region.specs.Literal.{Literal}
-use Rattle.pg_decider.specs.Leaf.{IsLog, path_of}
+use Rattle.std.specs.Prelude.{◌≡◌, ℕ, ◌+◌, ◌-◌, ◌<◌, List, [], ◌++◌, length, slice_index_or}
+use Rattle.pg_decider.specs.Leaf.{IsLog}
 use Rattle.pg_decider.specs.declared.log.TreeNode.{TreeNode}
-use Rattle.pg_decider.specs.declared.log.TreeNode.TheVariants.{Leaf}
-use Rattle.pg_derivation.specs.Derivation.{Node, leaf}
+use Rattle.pg_derivation.specs.Derivation.{Node}
 use Rattle.pg_derivation.specs.Text.{header_text, trees_text, end_text}
-use Rattle.pg_tree.specs.Laws.{IsWritten, AreWritten}
+use Rattle.pg_tree.specs.Laws.{AreWritten}
 use Rattle.pg_outline.specs.Outline.{OutlineTable}
 use Rattle.pg_layers.specs.Clauses.{obligation, obligation_clauses}
 use Rattle.pg_judge.specs.Outcome.{Outcome, IsOutcome, accepted, rejected, spent}

@@ -1,4 +1,4 @@
-use Rattle.std.proofs.Common.{◌≡◌, ◌+◌, ℕ, Some, None, sym, ap, subst, ◌∙◌, arith}
+use Rattle.std.proofs.Common.{◌≡◌, ◌+◌, Some, None, subst, arith}
 use Rattle.pg_outline.specs.Outline.{OutlineTable}
 use Rattle.pg_derive.specs.Desk.{IsSet}
 use Rattle.pg_derive.specs.Verified.{fault_for, AreFirstValid}

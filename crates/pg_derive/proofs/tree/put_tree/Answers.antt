@@ -1,4 +1,4 @@
-use Rattle.std.proofs.Common.{◌≡◌, ◌∙◌, sym, arith}
+use Rattle.std.proofs.Common.{◌∙◌, arith}
 use Rattle.std.proofs.lemmas.Result.{err_from_is_err_and}
 use Rattle.pg_region.specs.Range.{listed}
 use Rattle.pg_derive.proofs.TreeLines.{node-here, tree-memory, tree-fault, tree-next}

@@ -1,4 +1,4 @@
-use Rattle.std.proofs.Common.{◌≡◌, List, refl, sym, ap, subst, length, arith}
+use Rattle.std.proofs.Common.{List, sym, ap, subst, length, arith}
 use Rattle.std.proofs.lemmas.Result.{err_from_is_err_and}
 use Rattle.pg_region.specs.Literal.{Literal}
 use Rattle.pg_region.specs.Range.{listed}
