@@ -2,6 +2,8 @@
 
 ghost use Rattle.std.specs.Prelude.{◌≡◌, ◌≤◌, ◌<◌, ◌^◌, length, All, IfOk, IfSome};
 ghost use Rattle.pg_region.specs.Range.{listed, Fits};
+ghost use Rattle.pg_decider.specs.Leaf.{IsLog};
+ghost use Rattle.pg_decider.specs.Outcome.{IfClosed};
 
 use pg_cases::agree;
 use pg_decider::{TreeLog, TreeNode, Verdict, Workspace};
@@ -214,62 +216,33 @@ fn whole(region: &Region, atoms: u32) -> Loaded
     Loaded { range, atoms }
 }
 
-/// The nodes of a log in preorder: the number of the split literal, and 0 at a leaf.
-fn nodes(alloc: Global, log: &TreeLog) -> Result<Vec<i32>, Fail> {
-    let mut shown = Vec::new(alloc);
-    for i in 1..=log.len() {
-        shown.push(match log.node(i) {
-            TreeNode::Split(literal) => number_of(literal),
-            TreeNode::Leaf => 0,
-        })?;
-    }
-    Ok(shown)
-}
-
-/// The number of a literal in a table.
-fn number_of(literal: Lit) -> i32 {
-    let atom = i32::try_from(literal.atom()).unwrap_or(0);
-    if literal.positive() { atom } else { -atom }
-}
-
-/// The atoms that are true in a model.
-fn truths(alloc: Global, workspace: &Workspace, atoms: u32) -> Result<Vec<i32>, Fail>
-    requires { atoms ≤ workspace.now.atoms }
+/// A region with these clauses.
+fn laid(alloc: Global, atoms: u32, clauses: &[Numbers]) -> Result<Region, Fail>
+    ensures { IfOk result (λ r. All (All (λ l. l.atom ≤ atoms)) r.clauses) }
 {
-    let mut shown = Vec::new(alloc);
-    for atom in 1..=atoms {
-        if workspace.truth(atom) {
-            shown.push(i32::try_from(atom).unwrap_or(0))?;
-        }
+    let mut region = Region::make(alloc, 64, 16)?;
+    for numbers in clauses {
+        add(alloc, &mut region, atoms, numbers)?;
     }
-    Ok(shown)
+    Ok(region)
 }
 
-/// What a verdict shows: the nodes of a closed tree, or the atoms that are true in a model.
-fn shown(
-    alloc: Global,
+/// What clauses were decided with, the verdict, and how often a clause was looked at.
+#[derive(Drop)]
+struct Decided {
+    workspace: Workspace,
+    log: TreeLog,
     verdict: Verdict,
-    workspace: &Workspace,
-    log: &TreeLog,
-    atoms: u32,
-) -> Result<Vec<i32>, Fail>
-    requires { atoms ≤ workspace.now.atoms }
-{
-    match verdict {
-        Verdict::Closed(_) => nodes(alloc, log),
-        Verdict::Model(_) => truths(alloc, workspace, atoms),
-        Verdict::Spent => Ok(Vec::new(alloc)),
-    }
+    looks: u64,
 }
 
-/// The verdict on all clauses of a region, how often a clause was looked at, and what the verdict shows.
-fn decided(
-    alloc: Global,
-    region: &Region,
-    atoms: u32,
-    budget: u32,
-) -> Result<(Verdict, u64, Vec<i32>), Fail>
+/// Decides all clauses of a region.
+fn decide(alloc: Global, region: &Region, atoms: u32, budget: u32) -> Result<Decided, Fail>
     requires over { All (All (λ l. l.atom ≤ atoms)) region.now.clauses }
+    ensures few { IfOk result (λ _. atoms < 2 ^ 31) }
+    ensures atoms { IfOk result (λ d. d.workspace.atoms ≡ atoms) }
+    ensures clauses { IfOk result (λ d. d.workspace.clauses ≡ length region.now.clauses) }
+    ensures closed { IfOk result (λ d. IfClosed d.verdict (IsLog region.now.clauses d.log.lines)) }
 {
     if atoms >= 2147483648 || budget < 1 {
         return Err(Fail::new("a case has other limits"));
@@ -278,113 +251,176 @@ fn decided(
     let mut log = TreeLog::make(alloc, budget)?;
     let mut reader = ClauseReader::of(region, whole(region, atoms));
     let verdict = workspace.decide(&mut reader, budget, &mut log);
-    let shown = shown(alloc, verdict, &workspace, &log, atoms)?;
-    Ok((verdict, reader.looks(), shown))
+    Ok(Decided {
+        workspace,
+        log,
+        verdict,
+        looks: reader.looks(),
+    })
 }
 
-/// Passes where the clauses of a case are decided as is wanted.
-fn is_decided(alloc: Global, case: &Case) -> Result<(), Fail> {
-    let mut region = Region::make(alloc, 64, 16)?;
-    for numbers in case.clauses {
-        add(alloc, &mut region, case.atoms, numbers)?;
-    }
-    let (verdict, looks, shown) = decided(alloc, &region, case.atoms, case.budget)?;
-    agree(verdict, case.verdict, b"a verdict")?;
-    agree(
-        looks <= most_looks(&region, verdict, case.budget),
-        true,
-        b"looks",
-    )?;
-    agree(shown.len(), case.shown.len(), b"what is shown")?;
-    for (found, wanted) in shown.iter().zip(case.shown) {
-        agree(*found, *wanted, b"what is shown")?;
-    }
-    Ok(())
+/// The number of a literal in a table.
+fn number_of(literal: Lit) -> i32 {
+    let atom = i32::try_from(literal.atom()).unwrap_or(0);
+    if literal.positive() { atom } else { -atom }
 }
 
-/// How often clauses may be looked at: once each for their first watches; and at each node once each, and once for each literal.
-fn most_looks(region: &Region, verdict: Verdict, budget: u32) -> u64 {
+/// Whether the nodes of a log in preorder are these: the number of the split literal, and 0 at a leaf.
+fn are_nodes(log: &TreeLog, shown: &[i32]) -> bool {
+    if log.len() as usize != shown.len() {
+        return false;
+    }
+    for i in 0..log.len() {
+        let number = match log.node(i + 1) {
+            TreeNode::Split(literal) => number_of(literal),
+            TreeNode::Leaf => 0,
+        };
+        if number != shown[i as usize] {
+            return false;
+        }
+    }
+    true
+}
+
+/// Whether the atoms that are true in a model are these.
+fn are_truths(workspace: &Workspace, atoms: u32, shown: &[i32]) -> bool
+    requires { atoms ≤ workspace.now.atoms }
+{
+    for atom in 1..=atoms {
+        let is_shown = shown.contains(&i32::try_from(atom).unwrap_or(0));
+        if workspace.truth(atom) != is_shown {
+            return false;
+        }
+    }
+    true
+}
+
+/// Whether a verdict shows this: the nodes of a closed tree, or the atoms that are true in a model.
+fn shows(decided: &Decided, atoms: u32, shown: &[i32]) -> bool
+    requires { atoms ≤ decided.now.workspace.atoms }
+{
+    match decided.verdict {
+        Verdict::Closed(_) => are_nodes(&decided.log, shown),
+        Verdict::Model(_) => are_truths(&decided.workspace, atoms, shown),
+        Verdict::Spent => shown.is_empty(),
+    }
+}
+
+/// Whether clauses were looked at so few times: once each for their first watches; and at each node once each, and once for each
+/// literal.
+fn are_few_looks(region: &Region, decided: &Decided, budget: u32) -> bool {
     let clauses = u64::from(region.clauses());
-    let nodes = match verdict {
+    let nodes = match decided.verdict {
         Verdict::Closed(nodes) | Verdict::Model(nodes) => nodes,
         Verdict::Spent => budget,
     };
     let each = clauses + u64::from(region.words());
-    clauses.saturating_add(u64::from(nodes).saturating_mul(each))
+    decided.looks <= clauses.saturating_add(u64::from(nodes).saturating_mul(each))
+}
+
+/// Passes where the clauses of a case were decided as is wanted.
+fn is_wanted(region: &Region, decided: &Decided, case: &Case) -> Result<(), Fail>
+    requires { case.now.atoms ≤ decided.now.workspace.atoms }
+{
+    agree(decided.verdict, case.verdict, b"a verdict")?;
+    let few = are_few_looks(region, decided, case.budget);
+    let shown = shows(decided, case.atoms, case.shown);
+    agree((few, shown), (true, true), b"looks, and what is shown")
+}
+
+/// Passes where the clauses of a case are decided as is wanted.
+fn is_decided(alloc: Global, case: &Case) -> Result<(), Fail> {
+    let region = laid(alloc, case.atoms, case.clauses)?;
+    let decided = decide(alloc, &region, case.atoms, case.budget)?;
+    is_wanted(&region, &decided, case)
 }
 
 #[test]
 fn small_sets_of_clauses_are_decided(rt: HostRuntime) -> Result<(), Fail> {
+    let alloc = rt.alloc();
     for case in &CASES {
-        is_decided(rt.alloc(), case)?;
+        is_decided(alloc, case)?;
     }
     Ok(())
 }
 
-/// How many clauses close each leaf of a closed tree, and 0 for each node that splits.
-fn leaves(alloc: Global, region: &Region, atoms: u32, budget: u32) -> Result<Vec<usize>, Fail>
+/// Passes where so many clauses close each leaf of a closed tree, and 0 stands for each node that splits.
+fn are_leaves(
+    region: &Region,
+    atoms: u32,
+    workspace: &mut Workspace,
+    log: &TreeLog,
+    wanted: &[usize],
+) -> Result<(), Fail>
+    requires few { atoms < 2 ^ 31 }
     requires over { All (All (λ l. l.atom ≤ atoms)) region.now.clauses }
+    requires atoms { atoms ≤ workspace.old.atoms }
+    requires clauses { length region.now.clauses ≤ workspace.old.clauses }
+    requires log { IsLog region.now.clauses log.now.lines }
 {
-    if atoms >= 2147483648 || budget < 1 {
-        return Err(Fail::new("a case has other limits"));
+    if log.len() as usize != wanted.len() {
+        return Err(Fail::new("there are more nodes, or fewer"));
     }
     let loaded = whole(region, atoms);
-    let mut workspace = Workspace::make(alloc, atoms, region.clauses())?;
-    let mut log = TreeLog::make(alloc, budget)?;
-    let mut reader = ClauseReader::of(region, loaded);
-    let mut lengths = Vec::new(alloc);
-    if let Verdict::Closed(_) = workspace.decide(&mut reader, budget, &mut log) {
-        for i in 1..=log.len() {
-            lengths.push(match log.node(i) {
-                TreeNode::Split(_) => 0,
-                TreeNode::Leaf => workspace.leaf(region, loaded, &log, i).len(),
-            })?;
-        }
+    for i in 0..log.len() {
+        let found = match log.node(i + 1) {
+            TreeNode::Split(_) => 0,
+            TreeNode::Leaf => workspace.leaf(region, loaded, log, i + 1).len(),
+        };
+        agree(found, wanted[i as usize], b"clauses of a leaf")?;
     }
-    Ok(lengths)
+    Ok(())
 }
 
 /// The first leaf needs two clauses, and the second four: `1`; `not 1, 2, 3`; and the last two.
 #[test]
 fn leaves_are_closed_by_few_clauses(rt: HostRuntime) -> Result<(), Fail> {
-    let mut region = Region::make(rt.alloc(), 64, 16)?;
-    for numbers in CASES[5].clauses {
-        add(rt.alloc(), &mut region, 6, numbers)?;
+    let region = laid(rt.alloc(), 6, CASES[5].clauses)?;
+    let mut decided = decide(rt.alloc(), &region, 6, 3)?;
+    match decided.verdict {
+        Verdict::Closed(_) => are_leaves(
+            &region,
+            6,
+            &mut decided.workspace,
+            &decided.log,
+            &[0, 2, 4],
+        ),
+        _ => Err(Fail::new("a tree is not closed")),
     }
-    let lengths = leaves(rt.alloc(), &region, 6, 3)?;
-    agree(lengths.len(), 3, b"nodes")?;
-    for (found, wanted) in lengths.iter().zip(&[0usize, 2, 4]) {
-        agree(*found, *wanted, b"clauses of a leaf")?;
-    }
-    Ok(())
 }
 
-/// The clauses `not 2, 1`; `not 3, 2`; and so on up to a last atom, and the last atom: read backwards all atoms follow.
-fn chain(alloc: Global, atoms: u32) -> Result<Region, Fail>
-    ensures { IfOk result (λ r. All (All (λ l. l.atom ≤ atoms)) r.clauses) }
+/// Pushes the clauses `not 2, 1`; `not 3, 2`; and so on up to a last atom, and the last atom: read backwards all atoms follow.
+fn link(alloc: Global, region: &mut Region, atoms: u32) -> Result<(), Fail>
+    requires { All (All (λ l. l.atom ≤ atoms)) region.old.clauses }
+    ensures { All (All (λ l. l.atom ≤ atoms)) region.new.clauses }
 {
-    let mut region = Region::make(alloc, 400, 200)?;
     let last = i32::try_from(atoms).unwrap_or(0);
     for k in 1..last {
-        add(
-            alloc,
-            &mut region,
-            atoms,
-            &[k.saturating_add(1).saturating_neg(), k],
-        )?;
+        add(alloc, region, atoms, &[-(k + 1), k])?;
     }
-    add(alloc, &mut region, atoms, &[last])?;
-    Ok(region)
+    add(alloc, region, atoms, &[last])
 }
 
 /// A body that goes through all clauses until nothing is added looks at a clause 10,100 times.
 #[test]
 fn a_chain_of_clauses_is_looked_at_a_few_times(rt: HostRuntime) -> Result<(), Fail> {
-    let region = chain(rt.alloc(), 100)?;
-    let (verdict, looks, shown) = decided(rt.alloc(), &region, 100, 1)?;
-    agree(verdict, Verdict::Model(1), b"a chain")?;
-    agree(shown.len(), 100, b"a chain")?;
-    agree(looks <= 399, true, b"looks at a chain")
+    let mut region = Region::make(rt.alloc(), 400, 200)?;
+    link(rt.alloc(), &mut region, 100)?;
+    let decided = decide(rt.alloc(), &region, 100, 1)?;
+    agree(decided.verdict, Verdict::Model(1), b"a chain")?;
+    let truths = count_of(&decided.workspace, 100);
+    agree((truths, decided.looks <= 399), (100, true), b"a chain")
+}
+
+/// How many atoms are true in a model.
+fn count_of(workspace: &Workspace, atoms: u32) -> u32
+    requires { atoms ≤ workspace.now.atoms }
+{
+    let mut count: u32 = 0;
+    for atom in 1..=atoms {
+        count = count.saturating_add(u32::from(workspace.truth(atom)));
+    }
+    count
 }
 
 /// Numbers that a fixed rule gives one after the other.
@@ -426,11 +462,15 @@ fn is_satisfiable(clauses: &[[i32; 3]]) -> bool {
     (0..64u32).any(|values| are_met(clauses, values))
 }
 
-/// The values of the atoms that are true in a model.
-fn values_of(shown: &[i32]) -> u32 {
+/// The values of the first five atoms in a model.
+fn values_of(workspace: &Workspace) -> u32
+    requires { 5 ≤ workspace.now.atoms }
+{
     let mut values: u32 = 0;
-    for atom in shown {
-        values |= 1u32.checked_shl(atom.unsigned_abs()).unwrap_or(0);
+    for atom in 1..=5u32 {
+        values |= u32::from(workspace.truth(atom))
+            .checked_shl(atom)
+            .unwrap_or(0);
     }
     values
 }
@@ -444,28 +484,49 @@ fn some_clauses(alloc: Global, random: &mut Random, count: u32) -> Result<Vec<[i
     Ok(clauses)
 }
 
-/// Passes where the verdict on the clauses is that of all assignments, and a model satisfies each clause.
-fn is_right(alloc: Global, clauses: &[[i32; 3]]) -> Result<(), Fail> {
-    let mut region = Region::make(alloc, 100, 40)?;
+/// Pushes these clauses.
+fn add_all(alloc: Global, region: &mut Region, clauses: &[[i32; 3]]) -> Result<(), Fail>
+    requires { All (All (λ l. l.atom ≤ 5)) region.old.clauses }
+    ensures { All (All (λ l. l.atom ≤ 5)) region.new.clauses }
+{
     for numbers in clauses {
-        add(alloc, &mut region, 5, numbers)?;
+        add(alloc, region, 5, numbers)?;
     }
-    let (verdict, looks, shown) = decided(alloc, &region, 5, 63)?;
-    agree(looks <= most_looks(&region, verdict, 63), true, b"looks")?;
-    match verdict {
+    Ok(())
+}
+
+/// Passes where the verdict on the clauses is that of all assignments, and a model satisfies each clause.
+fn is_true_of_all(decided: &Decided, clauses: &[[i32; 3]]) -> Result<(), Fail>
+    requires { 5 ≤ decided.now.workspace.atoms }
+{
+    match decided.verdict {
         Verdict::Closed(_) => agree(is_satisfiable(clauses), false, b"closed"),
-        Verdict::Model(_) => agree(are_met(clauses, values_of(&shown)), true, b"a model"),
+        Verdict::Model(_) => agree(
+            are_met(clauses, values_of(&decided.workspace)),
+            true,
+            b"a model",
+        ),
         Verdict::Spent => Err(Fail::new("a tree over five atoms has at most 63 nodes")),
     }
 }
 
+/// Passes where clauses are decided as all assignments say, with few looks.
+fn is_right(alloc: Global, clauses: &[[i32; 3]]) -> Result<(), Fail> {
+    let mut region = Region::make(alloc, 100, 40)?;
+    add_all(alloc, &mut region, clauses)?;
+    let decided = decide(alloc, &region, 5, 63)?;
+    agree(are_few_looks(&region, &decided, 63), true, b"looks")?;
+    is_true_of_all(&decided, clauses)
+}
+
 #[test]
 fn verdicts_are_those_of_all_assignments(rt: HostRuntime) -> Result<(), Fail> {
+    let alloc = rt.alloc();
     let mut random = Random { state: 1 };
     for _ in 0..200 {
         let count = 12 + random.below(20);
-        let clauses = some_clauses(rt.alloc(), &mut random, count)?;
-        is_right(rt.alloc(), &clauses)?;
+        let clauses = some_clauses(alloc, &mut random, count)?;
+        is_right(alloc, &clauses)?;
     }
     Ok(())
 }

@@ -11,6 +11,8 @@ mod axioms;
 #[cfg(test)]
 mod decider;
 #[cfg(test)]
+mod given;
+#[cfg(test)]
 mod loads;
 #[cfg(test)]
 mod obligations;
@@ -18,3 +20,5 @@ mod obligations;
 mod persist;
 #[cfg(test)]
 mod regions;
+#[cfg(test)]
+mod steps;

@@ -1,7 +1,7 @@
 use Rattle.std.proofs.Common.{ℕ, ◌≤◌, length, arith}
 use Rattle.pg_program.specs.Program.{points}
 use Rattle.pg_logic_tests.proofs.FirstStep.{first_of}
-use Rattle.pg_logic_tests.proofs.access.first_step.Goals as goal
+use Rattle.pg_logic_tests.proofs.steps.first_step.Goals as goal
 
 pub returns-in-len1-up : goal.returns-in-len1-up
 returns-in-len1-up c =

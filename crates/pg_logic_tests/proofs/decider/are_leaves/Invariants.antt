@@ -1,5 +1,5 @@
 use Rattle.std.proofs.Common.{◌≤◌, ℕ, length}
-use Rattle.pg_logic_tests.proofs.decider.leaves.Given as goal
+use Rattle.pg_logic_tests.proofs.decider.are_leaves.Given as goal
 
 abbrev pub invariant-loop-i : goal.invariant-loop-i
 invariant-loop-i l = (l.atoms ≤ l.workspace.atoms) × (length l.region.clauses ≤ l.workspace.clauses)

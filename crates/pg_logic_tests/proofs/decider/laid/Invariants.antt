@@ -1,6 +1,6 @@
 use Rattle.std.proofs.Common.{◌≤◌, ℕ, All}
 use Rattle.pg_region.specs.Literal.{Literal}
-use Rattle.pg_logic_tests.proofs.decider.is_right.Given as goal
+use Rattle.pg_logic_tests.proofs.decider.laid.Given as goal
 
 abbrev pub invariant-loop-numbers : goal.invariant-loop-numbers
-invariant-loop-numbers l = All (All (λ (x : Literal). x.atom ≤ 5)) l.region.clauses
+invariant-loop-numbers l = All (All (λ (x : Literal). x.atom ≤ l.atoms)) l.region.clauses
