@@ -372,21 +372,33 @@ fn are_leaves(
     Ok(())
 }
 
+/// Passes where a tree is closed, and so many clauses close each of its leaves.
+fn is_closed(
+    region: &Region,
+    atoms: u32,
+    decided: &mut Decided,
+    wanted: &[usize],
+) -> Result<(), Fail>
+    requires few { atoms < 2 ^ 31 }
+    requires over { All (All (λ l. l.atom ≤ atoms)) region.now.clauses }
+    requires atoms { atoms ≤ decided.old.workspace.atoms }
+    requires clauses { length region.now.clauses ≤ decided.old.workspace.clauses }
+    requires closed { IfClosed decided.old.verdict (IsLog region.now.clauses decided.old.log.lines) }
+{
+    match decided.verdict {
+        Verdict::Closed(_) => {
+            are_leaves(region, atoms, &mut decided.workspace, &decided.log, wanted)
+        }
+        _ => Err(Fail::new("a tree is not closed")),
+    }
+}
+
 /// The first leaf needs two clauses, and the second four: `1`; `not 1, 2, 3`; and the last two.
 #[test]
 fn leaves_are_closed_by_few_clauses(rt: HostRuntime) -> Result<(), Fail> {
     let region = laid(rt.alloc(), 6, CASES[5].clauses)?;
     let mut decided = decide(rt.alloc(), &region, 6, 3)?;
-    match decided.verdict {
-        Verdict::Closed(_) => are_leaves(
-            &region,
-            6,
-            &mut decided.workspace,
-            &decided.log,
-            &[0, 2, 4],
-        ),
-        _ => Err(Fail::new("a tree is not closed")),
-    }
+    is_closed(&region, 6, &mut decided, &[0, 2, 4])
 }
 
 /// Pushes the clauses `not 2, 1`; `not 3, 2`; and so on up to a last atom, and the last atom: read backwards all atoms follow.
@@ -401,15 +413,13 @@ fn link(alloc: Global, region: &mut Region, atoms: u32) -> Result<(), Fail>
     add(alloc, region, atoms, &[last])
 }
 
-/// A body that goes through all clauses until nothing is added looks at a clause 10,100 times.
-#[test]
-fn a_chain_of_clauses_is_looked_at_a_few_times(rt: HostRuntime) -> Result<(), Fail> {
-    let mut region = Region::make(rt.alloc(), 400, 200)?;
-    link(rt.alloc(), &mut region, 100)?;
-    let decided = decide(rt.alloc(), &region, 100, 1)?;
-    agree(decided.verdict, Verdict::Model(1), b"a chain")?;
-    let truths = count_of(&decided.workspace, 100);
-    agree((truths, decided.looks <= 399), (100, true), b"a chain")
+/// A region with these clauses.
+fn chain(alloc: Global, atoms: u32) -> Result<Region, Fail>
+    ensures { IfOk result (λ r. All (All (λ l. l.atom ≤ atoms)) r.clauses) }
+{
+    let mut region = Region::make(alloc, 400, 200)?;
+    link(alloc, &mut region, atoms)?;
+    Ok(region)
 }
 
 /// How many atoms are true in a model.
@@ -421,6 +431,23 @@ fn count_of(workspace: &Workspace, atoms: u32) -> u32
         count = count.saturating_add(u32::from(workspace.truth(atom)));
     }
     count
+}
+
+/// Passes where a chain of 100 clauses has a model at once in which all atoms are true, and few looks.
+fn is_followed(decided: &Decided) -> Result<(), Fail>
+    requires { 100 ≤ decided.now.workspace.atoms }
+{
+    agree(decided.verdict, Verdict::Model(1), b"a chain")?;
+    let truths = count_of(&decided.workspace, 100);
+    agree((truths, decided.looks <= 399), (100, true), b"a chain")
+}
+
+/// A body that goes through all clauses until nothing is added looks at a clause 10,100 times.
+#[test]
+fn a_chain_of_clauses_is_looked_at_a_few_times(rt: HostRuntime) -> Result<(), Fail> {
+    let region = chain(rt.alloc(), 100)?;
+    let decided = decide(rt.alloc(), &region, 100, 1)?;
+    is_followed(&decided)
 }
 
 /// Numbers that a fixed rule gives one after the other.
@@ -495,6 +522,15 @@ fn add_all(alloc: Global, region: &mut Region, clauses: &[[i32; 3]]) -> Result<(
     Ok(())
 }
 
+/// A region with these clauses.
+fn laid_out(alloc: Global, clauses: &[[i32; 3]]) -> Result<Region, Fail>
+    ensures { IfOk result (λ r. All (All (λ l. l.atom ≤ 5)) r.clauses) }
+{
+    let mut region = Region::make(alloc, 100, 40)?;
+    add_all(alloc, &mut region, clauses)?;
+    Ok(region)
+}
+
 /// Passes where the verdict on the clauses is that of all assignments, and a model satisfies each clause.
 fn is_true_of_all(decided: &Decided, clauses: &[[i32; 3]]) -> Result<(), Fail>
     requires { 5 ≤ decided.now.workspace.atoms }
@@ -510,13 +546,19 @@ fn is_true_of_all(decided: &Decided, clauses: &[[i32; 3]]) -> Result<(), Fail>
     }
 }
 
+/// Passes where the clauses were decided as all assignments say, with few looks.
+fn is_as_wanted(region: &Region, decided: &Decided, clauses: &[[i32; 3]]) -> Result<(), Fail>
+    requires { 5 ≤ decided.now.workspace.atoms }
+{
+    agree(are_few_looks(region, decided, 63), true, b"looks")?;
+    is_true_of_all(decided, clauses)
+}
+
 /// Passes where clauses are decided as all assignments say, with few looks.
 fn is_right(alloc: Global, clauses: &[[i32; 3]]) -> Result<(), Fail> {
-    let mut region = Region::make(alloc, 100, 40)?;
-    add_all(alloc, &mut region, clauses)?;
+    let region = laid_out(alloc, clauses)?;
     let decided = decide(alloc, &region, 5, 63)?;
-    agree(are_few_looks(&region, &decided, 63), true, b"looks")?;
-    is_true_of_all(&decided, clauses)
+    is_as_wanted(&region, &decided, clauses)
 }
 
 #[test]

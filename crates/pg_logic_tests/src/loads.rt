@@ -26,8 +26,8 @@ struct Case {
 }
 
 /// The axioms of a side have 108 clauses, which the first load pushes for both, the rules of a store 89, and those of the flush 82. So the
-/// first pushes 216 + 82 + 115, and those behind it 115 again, 2 without a step, 62 of the same step, 89 + 109 of another one, 7 and 56 of
-/// that step again, 55 without one, 89 + 62, 109, 82 + 115 back at the first step, and 89 + 62 back again.
+/// first pushes 216 + 82 + 115, and those behind it 115 again, 2 without a step, 62 of the step whose rules still lie there, 89 + 109 of
+/// another one, 7 without a step, 56, 55 without a step, 89 + 62, 109, 82 + 115 back at the flush, and 89 + 62 back again.
 static LOADS: [Case; 12] = [
     Case {
         i: 7,

@@ -1,4 +1,4 @@
-use Rattle.std.proofs.Common.{◌≤◌, ℕ, All}
+use Rattle.std.proofs.Common.{◌≤◌, All}
 use Rattle.pg_region.specs.Literal.{Literal}
 use Rattle.pg_logic_tests.proofs.decider.laid.Given as goal
 

@@ -1,4 +1,4 @@
-use Rattle.std.proofs.Common.{ℕ, ◌≤◌, length, arith}
+use Rattle.std.proofs.Common.{◌≤◌, length, arith}
 use Rattle.pg_program.specs.Program.{points}
 use Rattle.pg_logic_tests.proofs.FirstStep.{first_of}
 use Rattle.pg_logic_tests.proofs.steps.first_step.Goals as goal
