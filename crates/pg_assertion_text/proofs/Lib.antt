@@ -10,13 +10,13 @@ mod Levels
 mod Begins
 mod Sound
 mod Stopped
-mod Complete
-mod Moves
+pub mod Complete
+pub mod Moves
 mod MovesFormula
 mod MovesAtoms
-mod Reaches
+pub mod Reaches
 mod ReachesAtoms
-mod Blames
+pub mod Blames
 mod Opens
 mod Swaps
 mod OpensAtoms
@@ -24,6 +24,8 @@ mod Firsts
 mod Limits
 mod LimitsAtoms
 mod Looser
+pub mod Local
+pub mod LocalFormula
 mod FirstsAtoms
 pub mod Whole
 pub mod SpellingTokens
