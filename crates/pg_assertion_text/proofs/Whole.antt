@@ -1,5 +1,5 @@
 -- Reading a whole formula: it is the formula of the grammar, and there is no other.
-use Rattle.std.proofs.Common.{◌≡◌, Ok, Err, refl, ap, sym, ◌∙◌, subst, arith}
+use Rattle.std.proofs.Common.{◌≡◌, ℕ, Ok, Err, refl, ap, sym, ◌∙◌, subst, arith}
 use Rattle.std.specs.Prelude.{◌≢◌, Result, IfOk}
 use Rattle.std.specs.Result.{result_unwrap_or}
 use Rattle.pg_lex.specs.declared.fault.TextFault.{TextFault}
@@ -12,7 +12,7 @@ use Rattle.pg_assertion_text.specs.Limits.{most_nodes, most_open}
 use Rattle.pg_assertion_text.specs.Input.{Input, Outcome, Parser}
 use Rattle.pg_assertion_text.specs.Reading.{formula}
 use Rattle.pg_assertion_text.specs.Laws.{FindsAtoms, ReadsAtoms, BeginsAtoms}
-use Rattle.pg_assertion_text.specs.Parsing.{IsFormula, Answers, HasOneReading, placed, formula_at, ReadsAt}
+use Rattle.pg_assertion_text.specs.Parsing.{IsFormulaIn, IsFormula, formula_within, Answers, HasOneReading, placed, formula_at, ReadsAt}
 use Rattle.pg_assertion_text.specs.Reading.{unary}
 use Rattle.pg_assertion_text.proofs.Sound.{formula_found}
 use Rattle.pg_assertion_text.proofs.Stopped.{formula_stopped}
@@ -42,12 +42,16 @@ module _ {T : Type 0} (read : NameTable → Parser T) (stands : NameTable → Cu
         stops = formula_stopped (unary (read names) most_open) (at c most_nodes) j f reads;
       }))
 
+  -- a formula of the grammar is read, with any limits
+  pub formula_within_reads : (open_most nodes_most : ℕ) (names : NameTable) (c to : Cursor) (f : Plain T) → IsFormulaIn open_most nodes_most stands names c f to → formula_within open_most nodes_most read names c ≡ Ok (f, to)
+  formula_within_reads open_most nodes_most names c to f is =
+      ap placed (formula_reads names (read names) (stands names) (λ from to a r st some. again names (at from r) a to st some) (λ from to a st. begins names from to a st)
+      open_most nodes_most c to f is.is is.few is.stops)
+
   -- the formula of the grammar is what is read
   pub formula_at_reads : (names : NameTable) (c to : Cursor) (f : Plain T) → IsFormula stands names c f to → formula_at read names c ≡ Ok (f, to)
   unfolding formula_at
-  formula_at_reads names c to f is =
-      ap placed (formula_reads names (read names) (stands names) (λ from to a r st some. again names (at from r) a to st some) (λ from to a st. begins names from to a st)
-      most_open most_nodes c to f is.is is.few is.stops)
+  formula_at_reads names c to f is = formula_within_reads most_open most_nodes names c to f is
 
   pub one_reading : HasOneReading stands
   one_reading names c a b f g first second =

@@ -1,5 +1,5 @@
 -- Reading a whole formula at a place of a text.
-use Rattle.std.specs.Prelude.{◌≡◌, ◌≢◌, ◌≤◌, Result, Ok, Err, MatchResult}
+use Rattle.std.specs.Prelude.{◌≡◌, ◌≢◌, ℕ, ◌≤◌, Result, Ok, Err, MatchResult}
 use Rattle.pg_lex.specs.declared.fault.TextFault.{TextFault}
 use Rattle.pg_lex.specs.declared.fault.TextFault.TheVariants.{NoMemory}
 use Rattle.pg_lex.specs.Lex.{Cursor}
@@ -15,11 +15,15 @@ use Rattle.pg_assertion_text.specs.Follows.{Stops}
 
 -- ---- by the grammar
 
--- A formula of the grammar within the limits, which no token goes on with: what there is to read at a place.
-pub record IsFormula {T : Type 0} (stands : NameTable → Cursor → T → Cursor → Type 0) (names : NameTable) (from : Cursor) (f : Plain T) (to : Cursor) : Type 0 where
-  pub is : Is names (stands names) grammar.formula most_open from f to
-  pub few : nodes f ≤ most_nodes
+-- A formula of the grammar, with so many brackets and `!` open at once and so many nodes at most, which no token goes on with.
+pub record IsFormulaIn {T : Type 0} (open_most nodes_most : ℕ) (stands : NameTable → Cursor → T → Cursor → Type 0) (names : NameTable) (from : Cursor) (f : Plain T) (to : Cursor) : Type 0 where
+  pub is : Is names (stands names) grammar.formula open_most from f to
+  pub few : nodes f ≤ nodes_most
   pub stops : Stops to
+
+-- within the limits: what there is to read at a place
+abbrev pub IsFormula : {T : Type 0} → (NameTable → Cursor → T → Cursor → Type 0) → NameTable → Cursor → Plain T → Cursor → Type 0
+IsFormula stands names from f to = IsFormulaIn most_open most_nodes stands names from f to
 
 -- the answer is this formula, want of memory aside
 abbrev pub Answers : {T : Type 0} → Plain T → Cursor → Result (Formula T) TextFault → Cursor → Type 0
@@ -36,9 +40,13 @@ abbrev pub placed : {A : Type 0} → Outcome A → Result (A × Cursor) TextFaul
 placed (Ok p) = Ok (p.0, p.1.cursor)
 placed (Err e) = Err e
 
--- the formula at a place and the place after it, or the first fault
+-- with so many brackets and `!` open at once and so many nodes at most, the formula at a place and the place after it, or the first fault
+abbrev pub formula_within : {T : Type 0} → ℕ → ℕ → (NameTable → Parser T) → NameTable → Cursor → Result (Plain T × Cursor) TextFault
+formula_within open_most nodes_most read names c = placed (formula (read names) open_most (record { cursor = c; room = nodes_most }))
+
+-- the same within the limits
 unfoldable pub formula_at : {T : Type 0} → (NameTable → Parser T) → NameTable → Cursor → Result (Plain T × Cursor) TextFault
-formula_at read names c = placed (formula (read names) most_open (record { cursor = c; room = most_nodes }))
+formula_at read names c = formula_within most_open most_nodes read names c
 
 -- the outcome, unless memory runs out
 abbrev pub ReadsAt : {T : Type 0} → Result (Plain T × Cursor) TextFault → Result (Formula T) TextFault → Cursor → Type 0

@@ -1,5 +1,6 @@
 -- The statements of a body by the grammar: a fact that holds of each kind of statement holds of all, the body has a note
 -- for each of their points, each note is within the limits, and few blocks are open at once.
+use Rattle.pg_program_text.specs.Limits.{text_limits}
 use Rattle.std.proofs.Common.{◌≡◌, ℕ, ◌+◌, ◌-◌, ◌≤◌, Bool, true, false, List, [], ◌∷◌, ◌++◌, length, refl, sym, ap, subst, ◌∙◌, arith}
 use Rattle.std.specs.Prelude.{max, if◌then◌else◌}
 use Rattle.std.specs.List.{All}
@@ -41,7 +42,7 @@ pub record IsSimple (x : Act-F Act Stmt) : Type 0 where
   pub first : first_in x ≡ []
   pub second : second_in x ≡ []
 
-pub act_simple : (names : NameTable) (from : Cursor) (a : Act) (to : Cursor) → IsAct names from a to → IsSimple (out-Act a)
+pub act_simple : (names : NameTable) (from : Cursor) (a : Act) (to : Cursor) → IsAct text_limits names from a to → IsSimple (out-Act a)
 act_simple names _ _ _ (g.an_assign r a from mid to st is) =
     subst IsSimple (sym (opened (act.Assign r a) (Assign r a) (act.rolls-Assign r a))) (record { simple = refl; first = refl; second = refl })
 act_simple names _ _ _ (g.a_store x a from mid to st is) =
@@ -126,7 +127,7 @@ outer g.other = 0
 abbrev IsNoteWithin : NameTable → Plain RawAtom → Type 0
 IsNoteWithin names f = IsWithin IsWritableRaw names f
 
-note_within : (names : NameTable) (from : Cursor) (f : Plain RawAtom) (to : Cursor) → IsNote names from f to → IsNoteWithin names f
+note_within : (names : NameTable) (from : Cursor) (f : Plain RawAtom) (to : Cursor) → IsNote text_limits names from f to → IsNoteWithin names f
 note_within names from f to is = formulas_are_within names is.mid is.end f is.formula
 
 -- what holds of the statements of a part and of its notes
@@ -145,9 +146,9 @@ pub record Body (names : NameTable) (P : Stmt → Type 0) (b : Block) (ns : Note
 
 -- the fact holds of each kind of statement, whatever is in its blocks
 pub record Meets (names : NameTable) (P : Stmt → Type 0) : Type 0 where
-  pub simple : (a : Act) (b : List AuxAssign) (from mid end : Cursor) → IsAct names from a mid → IsBracket names mid b end → P (roll-Stmt (record { act = a; aux = b }))
-  pub if_is : (c : Cond) (a b : List Stmt) (from to : Cursor) → IsTest names from c to → P (bare (act.If c a b))
-  pub while_is : (c : Cond) (a : List Stmt) (from to : Cursor) → IsTest names from c to → P (bare (act.While c a))
+  pub simple : (a : Act) (b : List AuxAssign) (from mid end : Cursor) → IsAct text_limits names from a mid → IsBracket text_limits names mid b end → P (roll-Stmt (record { act = a; aux = b }))
+  pub if_is : (c : Cond) (a b : List Stmt) (from to : Cursor) → IsTest text_limits names from c to → P (bare (act.If c a b))
+  pub while_is : (c : Cond) (a : List Stmt) (from to : Cursor) → IsTest text_limits names from c to → P (bare (act.While c a))
 
 module _ (names : NameTable) (P : Stmt → Type 0) (meets : Meets names P) where
   none : (part : Part) (n : ℕ) → outer part ≡ 0 → Low part n 0 → Points names P part n (block []) []
@@ -199,7 +200,7 @@ module _ (names : NameTable) (P : Stmt → Type 0) (meets : Meets names P) where
   line_notes : (f : Plain RawAtom) (ms ns : Notes) → IsNoteWithin names f → All (IsNoteWithin names) ms → All (IsNoteWithin names) ns → All (IsNoteWithin names) (f ∷ (ms ++ ns))
   line_notes f ms ns h one rest = All-cons (IsNoteWithin names) f (ms ++ ns) h (All-append (IsNoteWithin names) ms ns one rest)
 
-  part_points : (part : Part) (n : ℕ) (from : Cursor) (ss : List Stmt) (ns : Notes) (to : Cursor) → IsPart names part n from ss ns to → Points names P part n (block ss) ns
+  part_points : (part : Part) (n : ℕ) (from : Cursor) (ss : List Stmt) (ns : Notes) (to : Cursor) → IsPart text_limits names part n from ss ns to → Points names P part n (block ss) ns
   part_points _ _ _ _ _ _ (g.a_simple n a b from mid end to is aux close) =
       simple_points n (roll-Stmt (record { act = a; aux = b })) (split_simple a b (act_simple names from a mid is)) (meets.simple a b from mid end is aux)
   part_points _ _ _ _ _ _ (g.an_if n c first second ns ms from mid end behind to st test one two) =
@@ -229,7 +230,7 @@ module _ (names : NameTable) (P : Stmt → Type 0) (meets : Meets names P) where
         notes = line_notes f ms ns (note_within names from f mid note) one.notes others.notes;
       }
 
-  pub body_points : (from : Cursor) (ss : List Stmt) (ns : Notes) (to : Cursor) → IsBody names from ss ns to → Body names P (block ss) ns
+  pub body_points : (from : Cursor) (ss : List Stmt) (ns : Notes) (to : Cursor) → IsBody text_limits names from ss ns to → Body names P (block ss) ns
   unfolding nesting
   body_points _ _ _ _ (g.last_note f from to note) = record {
     stmts = All-nil P;

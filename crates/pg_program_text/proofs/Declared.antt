@@ -1,4 +1,5 @@
 -- The statements of a body are over declared names, and the body has a note for each of their points.
+use Rattle.pg_program_text.specs.Limits.{text_limits}
 use Rattle.std.proofs.Common.{◌≡◌, ℕ, ◌<◌, true, List, [], ◌∷◌, ◌++◌, length, map, refl, sym, ap, subst, ◌∙◌, arith}
 use Rattle.std.specs.List.{All}
 use Rattle.std.proofs.lemmas.List.Elements.{All-nil, All-cons, All-append}
@@ -66,7 +67,7 @@ phrase_declared names _ _ _ _ _ _ (grammar.a_sum m k n from mid behind to a b le
 phrase_declared names _ _ _ _ _ _ (grammar.a_difference m k n from mid behind to a b left st right) =
     subst (Declared names) (sym (reads_difference a b)) (two_sides names a b (phrase_declared names grammar.expr m k from a mid left) (phrase_declared names grammar.term m n behind b to right))
 
-expr_declared : (names : NameTable) (from : Cursor) (a : Expr) (to : Cursor) → IsExpr names from a to → Declared names (reads a)
+expr_declared : (names : NameTable) (from : Cursor) (a : Expr) (to : Cursor) → IsExpr text_limits names from a to → Declared names (reads a)
 expr_declared names from a to is = phrase_declared names grammar.expr _ is.nodes from a to is.is
 
 -- ---- acts
@@ -87,7 +88,7 @@ no_locations names = All-nil (λ (x : ℕ). x < length names.locations)
 one_location : (names : NameTable) (x : ℕ) → x < length names.locations → Located names (x ∷ [])
 one_location names x h = All-cons (λ (y : ℕ). y < length names.locations) x [] h (no_locations names)
 
-act_declared : (names : NameTable) (from : Cursor) (a : Act) (to : Cursor) → IsAct names from a to → ActDeclared names (out-Act a)
+act_declared : (names : NameTable) (from : Cursor) (a : Act) (to : Cursor) → IsAct text_limits names from a to → ActDeclared names (out-Act a)
 act_declared names _ _ _ (g.an_assign r a from mid to st is) =
     subst (ActDeclared names) (sym (opened (act.Assign r a) (Assign r a) (act.rolls-Assign r a))) (record {
       scalars = with_scalar names r (reads a) (item_fits names (scalar r) from st.0 st.1) (expr_declared names mid a to is);
@@ -132,19 +133,19 @@ record BracketDeclared (names : NameTable) (b : List AuxAssign) : Type 0 where
 no_bracket : (names : NameTable) → BracketDeclared names []
 no_bracket names = record { scalars = no_scalars names; targets = All-nil (λ (r : ℕ). is_auxiliary names r ≡ true) }
 
-one_assignment : (names : NameTable) (a : AuxAssign) (rest : List AuxAssign) (from to : Cursor) → IsAssignment names from a to → BracketDeclared names rest → BracketDeclared names (a ∷ rest)
+one_assignment : (names : NameTable) (a : AuxAssign) (rest : List AuxAssign) (from to : Cursor) → IsAssignment text_limits names from a to → BracketDeclared names rest → BracketDeclared names (a ∷ rest)
 one_assignment names a rest from to is others = record {
   scalars = with_scalar names a.target (reads a.expr ++ bracket_scalars rest) (item_fits names (scalar a.target) from is.target.0 is.target.1)
       (All-append (λ (r : ℕ). r < length names.scalars) (reads a.expr) (bracket_scalars rest) (expr_declared names is.mid a.expr to is.expr_is) others.scalars);
   targets = All-cons (λ (r : ℕ). is_auxiliary names r ≡ true) a.target (map (λ a. a.target) rest) is.auxiliary others.targets;
 }
 
-assignments_declared : (names : NameTable) (n : ℕ) (from : Cursor) (b : List AuxAssign) (to : Cursor) → AreAssignments names n from b to → BracketDeclared names b
+assignments_declared : (names : NameTable) (n : ℕ) (from : Cursor) (b : List AuxAssign) (to : Cursor) → AreAssignments text_limits names n from b to → BracketDeclared names b
 assignments_declared names _ _ _ _ (g.the_last n a from mid to is st) = one_assignment names a [] from mid is (no_bracket names)
 assignments_declared names _ _ _ _ (g.one_more n a rest from mid behind to is st others) =
     one_assignment names a rest from mid is (assignments_declared names n behind rest to others)
 
-bracket_declared : (names : NameTable) (from : Cursor) (b : List AuxAssign) (to : Cursor) → IsBracket names from b to → BracketDeclared names b
+bracket_declared : (names : NameTable) (from : Cursor) (b : List AuxAssign) (to : Cursor) → IsBracket text_limits names from b to → BracketDeclared names b
 bracket_declared names _ _ _ (g.no_bracket from) = no_bracket names
 bracket_declared names _ _ _ (g.a_bracket b from mid to st is) = assignments_declared names _ mid b to is
 
@@ -171,7 +172,7 @@ simple_declared names a b is h k =
       bare = λ test. let no = is.simple in cc;
     })
 
-test_declared : (names : NameTable) (from : Cursor) (c : Cond) (to : Cursor) → IsTest names from c to → Declared names (reads c.left ++ reads c.right)
+test_declared : (names : NameTable) (from : Cursor) (c : Cond) (to : Cursor) → IsTest text_limits names from c to → Declared names (reads c.left ++ reads c.right)
 test_declared names from c to is = two_sides names c.left c.right (expr_declared names from c.left is.mid is.left) (expr_declared names is.behind c.right to is.right)
 
 bare_declared : (names : NameTable) (a : Act) (x : Act-F Act Stmt) → out-Act a ≡ x → Declared names (outside_in x) → locations_in x ≡ [] → IsStmt names (bare a)

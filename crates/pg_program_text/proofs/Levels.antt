@@ -1,4 +1,5 @@
 -- A reader of factors with a number of levels, and one with the levels below it.
+use Rattle.pg_program_text.specs.Limits.{text_limits}
 use Rattle.std.proofs.Common.{◌≡◌, ℕ, zero, suc, Some, None, refl, ap, arith}
 use Rattle.std.specs.Prelude.{Option, option_map}
 use Rattle.pg_program.specs.NameTable.{NameTable}
@@ -14,9 +15,9 @@ factor_below names zero (Some b) h = absurd (omega arith)
 factor_below names (suc n) (Some b) h = ap (λ k. factor_in names (Some (factor_of names k))) (omega arith)
 
 -- and the same of statements
-pub statement_below : (names : NameTable) (n : ℕ) (b : Option ℕ) → above b ≡ n → statement names n ≡ statement_in names (option_map (statement names) b)
+pub statement_below : (names : NameTable) (n : ℕ) (b : Option ℕ) → above b ≡ n → statement text_limits names n ≡ statement_in text_limits names (option_map (statement text_limits names) b)
 unfolding statement
 statement_below names zero None h = refl
 statement_below names (suc n) None h = cc
 statement_below names zero (Some b) h = absurd (omega arith)
-statement_below names (suc n) (Some b) h = ap (λ k. statement_in names (Some (statement names k))) (omega arith)
+statement_below names (suc n) (Some b) h = ap (λ k. statement_in text_limits names (Some (statement text_limits names k))) (omega arith)

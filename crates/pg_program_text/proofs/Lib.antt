@@ -9,6 +9,10 @@ mod ExprComplete
 mod PartsSound
 pub mod ThreadSound
 mod PartsComplete
+mod LocalExpr
+mod LocalParts
+mod LocalThread
+mod Blamed
 pub mod ThreadComplete
 mod Spelling
 mod SpellingTrees

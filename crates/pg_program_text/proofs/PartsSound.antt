@@ -1,4 +1,5 @@
 -- The parts of a statement that are read are in the grammar.
+use Rattle.pg_program_text.specs.Limits.{text_limits}
 use Rattle.std.proofs.Common.{◌≡◌, ◌⊎◌, inl, inr, ℕ, zero, suc, ◌+◌, Bool, true, false, Ok, Err, Some, None, List, [], ◌∷◌, ◌++◌, refl, ap, sym, ◌∙◌, subst, arith, append_assoc}
 use Rattle.std.specs.Prelude.{Option, if◌then◌else◌, Result}
 use Rattle.std.specs.Result.{result_unwrap_or}
@@ -53,13 +54,13 @@ with_room_then {A} r (Ok p) a j h use_it =
     use_it p.1 (ap (λ x. Ok (x, p.1)) (ap (λ (q : A × Input). q.0) same)) (sym (ap (λ (q : A × Input). q.1) same))
 with_room_then r (Err e) a j h use_it = cc
 
-pub expression_found : (names : NameTable) (i j : Input) (a : Expr) → expression names i ≡ Ok (a, j) → Passed (IsExpr names) i a j
+pub expression_found : (names : NameTable) (i j : Input) (a : Expr) → expression text_limits names i ≡ Ok (a, j) → Passed (IsExpr text_limits names) i a j
 unfolding expression
 expression_found names i j a h =
     with_room_then i.room (sum (factor_of names most_open_brackets) (record i { room = most_expression_nodes })) a j h (λ l reads at.
     let found = expr_found names most_open_brackets (record i { room = most_expression_nodes }) l a reads in
     record {
-      is = subst (λ q. IsExpr names i.cursor a q.cursor) (sym at) (record { nodes = found.nodes; is = found.is; few = let fr = found.room in omega arith });
+      is = subst (λ q. IsExpr text_limits names i.cursor a q.cursor) (sym at) (record { nodes = found.nodes; is = found.is; few = let fr = found.room in omega arith });
       room = sym (ap (λ q. q.room) at);
     })
 
@@ -69,8 +70,8 @@ behind_then {A} i (Ok p) a j h use_it =
     use_it p.1 (ap (λ x. Ok (x, p.1)) (ap (λ (q : A × Input). q.0) same)) (sym (ap (λ (q : A × Input). q.1) same))
 behind_then i (Err e) a j h use_it = cc
 
-formula_found : (names : NameTable) (i j : Input) (f : Plain RawAtom) → formula names i ≡ Ok (f, j) → Passed (IsFormula IsRaw names) i f j
-unfolding formula
+formula_found : (names : NameTable) (i j : Input) (f : Plain RawAtom) → formula text_limits names i ≡ Ok (f, j) → Passed (IsFormula IsRaw names) i f j
+unfolding formula formula_at
 formula_found names i j f h =
     behind_then i (formula_at raw_atom names i.cursor) f j h (λ c reads at.
     record {
@@ -90,17 +91,17 @@ opened_found names i j u h =
     by t l read at true e g = takes_then (takes_one names (sign s.OpenSquare) i l t read (is_sign_found s.OpenSquare t.kind e) at) (node_takes names t.place l j u g)
     by t l read at false e g = cc
 
-pub note_found : (names : NameTable) (i j : Input) (f : Plain RawAtom) → note names i ≡ Ok (f, j) → IsNote names i.cursor f j.cursor × (i.room ≡ j.room + 1)
+pub note_found : (names : NameTable) (i j : Input) (f : Plain RawAtom) → note text_limits names i ≡ Ok (f, j) → IsNote text_limits names i.cursor f j.cursor × (i.room ≡ j.room + 1)
 unfolding note
 note_found names i j f h =
-    bind_then (and_then (opened i) (λ u. formula names)) _ (f, j) h (λ a l two rest.
-    bind_then (opened i) (λ u. formula names) (a, l) two (λ u m opens reads.
+    bind_then (and_then (opened i) (λ u. formula text_limits names)) _ (f, j) h (λ a l two rest.
+    bind_then (opened i) (λ u. formula text_limits names) (a, l) two (λ u m opens reads.
     bind_then (expect s.CloseSquare l) _ (f, j) rest (λ w n close end.
     let o = opened_found names i m u opens in
     let found = formula_found names m l a reads in
     let c = expect_found names s.CloseSquare l n w close in
     let same = ok_same (a, n) (f, j) end in
-    subst (λ (q : Plain RawAtom × Input). IsNote names i.cursor q.0 q.1.cursor × (i.room ≡ q.1.room + 1)) same (
+    subst (λ (q : Plain RawAtom × Input). IsNote text_limits names i.cursor q.0 q.1.cursor × (i.room ≡ q.1.room + 1)) same (
       record {
         mid = m.cursor;
         end = l.cursor;
@@ -131,12 +132,12 @@ equal_found t b h = by (is_sign s.Equal t.kind) refl h
     by true e g = is_sign_found s.Equal t.kind e ∙ ap (λ b. kind.Sign (equality b)) (value_is true g)
     by false e g = second (is_sign s.NotEqual t.kind) refl g
 
-pub test_found : (names : NameTable) (i j : Input) (c : Cond) → a_test names i ≡ Ok (c, j) → Passed (IsTest names) i c j
+pub test_found : (names : NameTable) (i j : Input) (c : Cond) → a_test text_limits names i ≡ Ok (c, j) → Passed (IsTest text_limits names) i c j
 unfolding a_test test_sign
 test_found names i j c h =
-    bind_then (expression names i) _ (c, j) h (λ a l first rest.
+    bind_then (expression text_limits names i) _ (c, j) h (λ a l first rest.
     bind_then (test_sign l) _ (c, j) rest (λ b n compares rest2.
-    bind_then (expression names n) _ (c, j) rest2 (λ d o second end.
+    bind_then (expression text_limits names n) _ (c, j) rest2 (λ d o second end.
     bind_then (next l) _ (b, n) compares (λ t m read tells.
     settled_then (equal_at t) m (b, n) tells (λ b2 is same.
     let left = expression_found names i l a first in
@@ -144,7 +145,7 @@ test_found names i j c h =
     let found = next_found l m t read in
     let at : n ≡ record l { cursor = after l.cursor } = sym (ap (λ (q : Bool × Input). q.1) same) ∙ found.1 in
     let is_sign_of : t.kind ≡ kind.Sign (equality b) = equal_found t b (is ∙ ap (λ (q : Bool × Input). Ok q.0) same) in
-    subst (λ (q : Cond × Input). Passed (IsTest names) i q.0 q.1) (ok_same (record { left = a; right = d; equal = b }, o) (c, j) end)
+    subst (λ (q : Cond × Input). Passed (IsTest text_limits names) i q.0 q.1) (ok_same (record { left = a; right = d; equal = b }, o) (c, j) end)
     (record {
       is = record {
         mid = l.cursor;
@@ -227,30 +228,30 @@ stay names is i j t = let r = t.room in omega arith
 record Operand (names : NameTable) (i : Input) (a : Expr) (j : Input) : Type 0 where
   mid : Input
   comma : Takes names (sign s.Comma ∷ []) 0 i mid
-  expr_is : Passed (IsExpr names) mid a j
+  expr_is : Passed (IsExpr text_limits names) mid a j
 
-operand_found : (names : NameTable) (i j : Input) (a : Expr) → operand names i ≡ Ok (a, j) → Operand names i a j
+operand_found : (names : NameTable) (i j : Input) (a : Expr) → operand text_limits names i ≡ Ok (a, j) → Operand names i a j
 unfolding operand
 operand_found names i j a h =
-    bind_then (expect s.Comma i) (λ u. expression names) (a, j) h (λ u m comma reads.
+    bind_then (expect s.Comma i) (λ u. expression text_limits names) (a, j) h (λ u m comma reads.
     record { mid = m; comma = expect_found names s.Comma i m u comma; expr_is = expression_found names m j a reads })
 
-swap_found : (names : NameTable) (r : ℕ) (i m j : Input) (a : Act) → Takes names (scalar r ∷ sign s.Assign ∷ word (spelling k.Cas) ∷ []) 0 i m → swap names r m ≡ Ok (a, j)
-    → Passed (IsAct names) i a j
+swap_found : (names : NameTable) (r : ℕ) (i m j : Input) (a : Act) → Takes names (scalar r ∷ sign s.Assign ∷ word (spelling k.Cas) ∷ []) 0 i m → swap text_limits names r m ≡ Ok (a, j)
+    → Passed (IsAct text_limits names) i a j
 unfolding swap last_operand
 swap_found names r i m j a first h =
     bind_then (and_then (expect s.Open m) (λ u. input.location names)) _ (a, j) h (λ x l one rest.
     bind_then (expect s.Open m) (λ u. input.location names) (x, l) one (λ u n bracket_open named_x.
-    bind_then (operand names l) _ (a, j) rest (λ b p two rest2.
-    bind_then (last_operand names p) _ (a, j) rest2 (λ c y three end.
-    bind_then (operand names p) _ (c, y) three (λ d q four rest3.
+    bind_then (operand text_limits names l) _ (a, j) rest (λ b p two rest2.
+    bind_then (last_operand text_limits names p) _ (a, j) rest2 (λ c y three end.
+    bind_then (operand text_limits names p) _ (c, y) three (λ d q four rest3.
     bind_then (expect s.Close q) _ (c, y) rest3 (λ z v close last.
     let o1 = operand_found names l p b two in
     let o2 = operand_found names p q d four in
     let head = takes_then first (takes_then (expect_found names s.Open m n u bracket_open) (takes_then (location_found names n l x named_x) o1.comma)) in
     let cl = expect_found names s.Close q v z close in
-    subst (λ (w : Act × Input). Passed (IsAct names) i w.0 w.1) (ok_same (act.Cas r x b c, y) (a, j) end)
-    (subst (λ (w : Expr × Input). Passed (IsAct names) i (act.Cas r x b w.0) w.1) (ok_same (d, v) (c, y) last)
+    subst (λ (w : Act × Input). Passed (IsAct text_limits names) i w.0 w.1) (ok_same (act.Cas r x b c, y) (a, j) end)
+    (subst (λ (w : Expr × Input). Passed (IsAct text_limits names) i (act.Cas r x b w.0) w.1) (ok_same (d, v) (c, y) last)
     (record {
       is = g.a_cas r x b d i.cursor o1.mid.cursor p.cursor o2.mid.cursor q.cursor v.cursor head.stand o1.expr_is.is
           (subst (Stands names (sign s.Comma) p.cursor) (sym o2.comma.stand.2) o2.comma.stand.1) o2.expr_is.is
@@ -259,37 +260,37 @@ swap_found names r i m j a first h =
     }))))))))
 
 assign_found : (names : NameTable) (r : ℕ) (i m j : Input) (a : Act) → Takes names (scalar r ∷ sign s.Assign ∷ []) 0 i m
-    → and_then (expression names m) (λ b. pure (act.Assign r b)) ≡ Ok (a, j) → Passed (IsAct names) i a j
+    → and_then (expression text_limits names m) (λ b. pure (act.Assign r b)) ≡ Ok (a, j) → Passed (IsAct text_limits names) i a j
 assign_found names r i m j a first h =
-    bind_then (expression names m) (λ b. pure (act.Assign r b)) (a, j) h (λ b n reads end.
+    bind_then (expression text_limits names m) (λ b. pure (act.Assign r b)) (a, j) h (λ b n reads end.
     let found = expression_found names m n b reads in
-    subst (λ (q : Act × Input). Passed (IsAct names) i q.0 q.1) (ok_same (act.Assign r b, n) (a, j) end)
+    subst (λ (q : Act × Input). Passed (IsAct text_limits names) i q.0 q.1) (ok_same (act.Assign r b, n) (a, j) end)
     (record { is = g.an_assign r b i.cursor m.cursor n.cursor first.stand found.is; room = let fr = first.room in let er = found.room in omega arith }))
 
 load_or_assign_found : (names : NameTable) (r : ℕ) (i m j : Input) (a : Act) (t : Lexeme) → Takes names (scalar r ∷ sign s.Assign ∷ []) 0 i m → token m.cursor ≡ Ok t
-    → (q : Result NameRef TextKind) → named names t ≡ q → load_or_assign names r q m ≡ Ok (a, j) → Passed (IsAct names) i a j
+    → (q : Result NameRef TextKind) → named names t ≡ q → load_or_assign text_limits names r q m ≡ Ok (a, j) → Passed (IsAct text_limits names) i a j
 load_or_assign_found names r i m j a t first read (Ok (place.Location x)) is h =
     bind_then (next m) (λ u. pure (act.Load r x)) (a, j) h (λ w n takes end.
     let found = next_found m n w takes in
     let whole = takes_then first (takes_one names (location x) m n t read (named_found names t (place.Location x) is) found.1) in
-    subst (λ (q : Act × Input). Passed (IsAct names) i q.0 q.1) (ok_same (act.Load r x, n) (a, j) end)
+    subst (λ (q : Act × Input). Passed (IsAct text_limits names) i q.0 q.1) (ok_same (act.Load r x, n) (a, j) end)
     (record { is = g.a_load r x i.cursor n.cursor whole.stand; room = stay names (scalar r ∷ sign s.Assign ∷ location x ∷ []) i n whole }))
 load_or_assign_found names r i m j a t first read (Ok (place.Scalar q)) is h = assign_found names r i m j a first h
 load_or_assign_found names r i m j a t first read (Err why) is h = assign_found names r i m j a first h
 
-assigned_found : (names : NameTable) (r : ℕ) (i m j : Input) (a : Act) → Takes names (scalar r ∷ sign s.Assign ∷ []) 0 i m → assigned names r m ≡ Ok (a, j) → Passed (IsAct names) i a j
+assigned_found : (names : NameTable) (r : ℕ) (i m j : Input) (a : Act) → Takes names (scalar r ∷ sign s.Assign ∷ []) 0 i m → assigned text_limits names r m ≡ Ok (a, j) → Passed (IsAct text_limits names) i a j
 unfolding assigned
 assigned_found names r i m j a first h =
     bind_then (peek m) _ (a, j) h (λ t n sees rest.
     let p = peek_found m n t sees in
-    by t p.0 (keyword t) refl (subst (λ q. assigned_by names r t (keyword t) q ≡ Ok (a, j)) p.1 rest))
+    by t p.0 (keyword t) refl (subst (λ q. assigned_by text_limits names r t (keyword t) q ≡ Ok (a, j)) p.1 rest))
   where
-    other : (t : Lexeme) → token m.cursor ≡ Ok t → load_or_assign names r (named names t) m ≡ Ok (a, j) → Passed (IsAct names) i a j
+    other : (t : Lexeme) → token m.cursor ≡ Ok t → load_or_assign text_limits names r (named names t) m ≡ Ok (a, j) → Passed (IsAct text_limits names) i a j
     other t read rest = load_or_assign_found names r i m j a t first read (named names t) refl rest
 
-    by : (t : Lexeme) → token m.cursor ≡ Ok t → (o : Option Keyword) → keyword t ≡ o → assigned_by names r t o m ≡ Ok (a, j) → Passed (IsAct names) i a j
+    by : (t : Lexeme) → token m.cursor ≡ Ok t → (o : Option Keyword) → keyword t ≡ o → assigned_by text_limits names r t o m ≡ Ok (a, j) → Passed (IsAct text_limits names) i a j
     by t read (Some k.Cas) is rest =
-        bind_then (next m) (λ u. swap names r) (a, j) rest (λ w n takes rest2.
+        bind_then (next m) (λ u. swap text_limits names r) (a, j) rest (λ w n takes rest2.
         let found = next_found m n w takes in
         swap_found names r i n j a (takes_then first (takes_one names (word (spelling k.Cas)) m n t read (keyword_found t k.Cas is) found.1)) rest2)
     by t read None is rest = other t read rest
@@ -301,28 +302,28 @@ assigned_found names r i m j a first h =
     by t read (Some k.Else) is rest = other t read rest
     by t read (Some k.While) is rest = other t read rest
 
-to_name_found : (names : NameTable) (q : NameRef) (i l j : Input) (a : Act) → Takes names (item_of q ∷ []) 0 i l → to_name names q l ≡ Ok (a, j) → Passed (IsAct names) i a j
+to_name_found : (names : NameTable) (q : NameRef) (i l j : Input) (a : Act) → Takes names (item_of q ∷ []) 0 i l → to_name text_limits names q l ≡ Ok (a, j) → Passed (IsAct text_limits names) i a j
 to_name_found names (place.Scalar r) i l j a first h =
-    bind_then (expect s.Assign l) (λ u. assigned names r) (a, j) h (λ u m sets rest.
+    bind_then (expect s.Assign l) (λ u. assigned text_limits names r) (a, j) h (λ u m sets rest.
     assigned_found names r i m j a (takes_then first (expect_found names s.Assign l m u sets)) rest)
 to_name_found names (place.Location x) i l j a first h =
-    bind_then (and_then (expect s.Assign l) (λ u. expression names)) _ (a, j) h (λ b n two end.
-    bind_then (expect s.Assign l) (λ u. expression names) (b, n) two (λ u m sets reads.
+    bind_then (and_then (expect s.Assign l) (λ u. expression text_limits names)) _ (a, j) h (λ b n two end.
+    bind_then (expect s.Assign l) (λ u. expression text_limits names) (b, n) two (λ u m sets reads.
     let head = takes_then first (expect_found names s.Assign l m u sets) in
     let found = expression_found names m n b reads in
-    subst (λ (q : Act × Input). Passed (IsAct names) i q.0 q.1) (ok_same (act.Store x b, n) (a, j) end)
+    subst (λ (q : Act × Input). Passed (IsAct text_limits names) i q.0 q.1) (ok_same (act.Store x b, n) (a, j) end)
     (record { is = g.a_store x b i.cursor m.cursor n.cursor head.stand found.is; room = let fr = head.room in let er = found.room in omega arith })))
 
 named_item : (names : NameTable) (t : Lexeme) (q : NameRef) → named names t ≡ Ok q → Matches names (item_of q) t
 named_item names t (place.Location x) h = named_found names t (place.Location x) h
 named_item names t (place.Scalar r) h = named_found names t (place.Scalar r) h
 
-pub act_found : (names : NameTable) (i j : Input) (a : Act) → an_act names i ≡ Ok (a, j) → Passed (IsAct names) i a j
+pub act_found : (names : NameTable) (i j : Input) (a : Act) → an_act text_limits names i ≡ Ok (a, j) → Passed (IsAct text_limits names) i a j
 unfolding an_act
 act_found names i j a h =
     bind_then (next i) _ (a, j) h (λ t l read rest. let found = next_found i l t read in by t l found.0 found.1 (keyword t) refl rest)
   where
-    by_name : (t : Lexeme) (l : Input) → token i.cursor ≡ Ok t → l ≡ record i { cursor = after i.cursor } → named_act names t l ≡ Ok (a, j) → Passed (IsAct names) i a j
+    by_name : (t : Lexeme) (l : Input) → token i.cursor ≡ Ok t → l ≡ record i { cursor = after i.cursor } → named_act text_limits names t l ≡ Ok (a, j) → Passed (IsAct text_limits names) i a j
     by_name t l read at rest =
         bind_then (allowed t.place (named names t) l) _ (a, j) rest (λ q m allows rest2.
         allowed_then t.place (named names t) l (q, m) allows (λ p fine same.
@@ -330,21 +331,21 @@ act_found names i j a h =
         (takes_one names (item_of q) i m t read (named_item names t q (fine ∙ ap (λ (z : NameRef × Input). Ok z.0) same)) (sym (ap (λ (z : NameRef × Input). z.1) same) ∙ at)) rest2))
 
     fence : (t : Lexeme) (l : Input) (x : Keyword) (b : Act) → token i.cursor ≡ Ok t → l ≡ record i { cursor = after i.cursor } → keyword t ≡ Some x
-        → ((from to : Cursor) → Stands names (word (spelling x)) from to → IsAct names from b to) → ◌≡◌ {A = Outcome Act} (Ok (b, l)) (Ok (a, j)) → Passed (IsAct names) i a j
+        → ((from to : Cursor) → Stands names (word (spelling x)) from to → IsAct text_limits names from b to) → ◌≡◌ {A = Outcome Act} (Ok (b, l)) (Ok (a, j)) → Passed (IsAct text_limits names) i a j
     fence t l x b read at is make end =
-        subst (λ (q : Act × Input). Passed (IsAct names) i q.0 q.1) (ok_same (b, l) (a, j) end)
+        subst (λ (q : Act × Input). Passed (IsAct text_limits names) i q.0 q.1) (ok_same (b, l) (a, j) end)
         (record { is = make i.cursor l.cursor (record { lexeme = t; read = read; matches = keyword_found t x is; behind = ap (λ q. q.cursor) at }); room = sym (ap (λ q. q.room) at) })
 
     flush_by : (t : Lexeme) (l : Input) (x : Keyword) (make : ℕ → Act) → token i.cursor ≡ Ok t → l ≡ record i { cursor = after i.cursor } → keyword t ≡ Some x
-        → ((y : ℕ) (from to : Cursor) → Stand names (word (spelling x) ∷ location y ∷ []) from to → IsAct names from (make y) to)
-        → and_then (input.location names l) (λ y. pure (make y)) ≡ Ok (a, j) → Passed (IsAct names) i a j
+        → ((y : ℕ) (from to : Cursor) → Stand names (word (spelling x) ∷ location y ∷ []) from to → IsAct text_limits names from (make y) to)
+        → and_then (input.location names l) (λ y. pure (make y)) ≡ Ok (a, j) → Passed (IsAct text_limits names) i a j
     flush_by t l x make read at is built rest =
         bind_then (input.location names l) (λ y. pure (make y)) (a, j) rest (λ y m reads end.
         let whole = takes_then (takes_one names (word (spelling x)) i l t read (keyword_found t x is) at) (location_found names l m y reads) in
-        subst (λ (q : Act × Input). Passed (IsAct names) i q.0 q.1) (ok_same (make y, m) (a, j) end)
+        subst (λ (q : Act × Input). Passed (IsAct text_limits names) i q.0 q.1) (ok_same (make y, m) (a, j) end)
         (record { is = built y i.cursor m.cursor whole.stand; room = stay names (word (spelling x) ∷ location y ∷ []) i m whole }))
 
-    by : (t : Lexeme) (l : Input) → token i.cursor ≡ Ok t → l ≡ record i { cursor = after i.cursor } → (o : Option Keyword) → keyword t ≡ o → act_by names t o l ≡ Ok (a, j) → Passed (IsAct names) i a j
+    by : (t : Lexeme) (l : Input) → token i.cursor ≡ Ok t → l ≡ record i { cursor = after i.cursor } → (o : Option Keyword) → keyword t ≡ o → act_by text_limits names t o l ≡ Ok (a, j) → Passed (IsAct text_limits names) i a j
     by t l read at (Some k.Mfence) is rest = fence t l k.Mfence act.Mfence read at is (λ from to st. g.an_mfence from to st) rest
     by t l read at (Some k.Sfence) is rest = fence t l k.Sfence act.Sfence read at is (λ from to st. g.an_sfence from to st) rest
     by t l read at (Some k.Flush) is rest = flush_by t l k.Flush (λ y. act.Flush y) read at is (λ y from to st. g.a_flush y from to st) rest
@@ -373,13 +374,13 @@ one_more_found : (p n : ℕ) (i j : Input) (u : Unit {0}) → one_more p n i ≡
 one_more_found p zero i j u h = cc
 one_more_found p (suc n) i j u h = (sym (ap (λ (q : Unit {0} × Input). q.1) (ok_same (tt, i) (u, j) h)), λ (e : suc n ≡ zero). cc)
 
-assignment_found : (names : NameTable) (n : ℕ) (i j : Input) (a : AuxAssign) → assignment names n i ≡ Ok (a, j) → Passed (IsAssignment names) i a j × ((n ≡ zero) → ⊥)
+assignment_found : (names : NameTable) (n : ℕ) (i j : Input) (a : AuxAssign) → assignment text_limits names n i ≡ Ok (a, j) → Passed (IsAssignment text_limits names) i a j × ((n ≡ zero) → ⊥)
 unfolding assignment
 assignment_found names n i j a h =
     bind_then (next i) _ (a, j) h (λ t l read rest.
     bind_then (allowed t.place (auxiliary_in names (named names t)) l) _ (a, j) rest (λ r m allows rest2.
-    bind_then (and_then (and_then (one_more t.place n m) (λ u. expect s.Assign)) (λ u. expression names)) _ (a, j) rest2 (λ b p two end.
-    bind_then (and_then (one_more t.place n m) (λ u. expect s.Assign)) (λ u. expression names) (b, p) two (λ v o three reads.
+    bind_then (and_then (and_then (one_more t.place n m) (λ u. expect s.Assign)) (λ u. expression text_limits names)) _ (a, j) rest2 (λ b p two end.
+    bind_then (and_then (one_more t.place n m) (λ u. expect s.Assign)) (λ u. expression text_limits names) (b, p) two (λ v o three reads.
     bind_then (one_more t.place n m) (λ u. expect s.Assign) (v, o) three (λ w y more sets.
     allowed_then t.place (auxiliary_in names (named names t)) l (r, m) allows (λ q fine same.
     let found = next_found i l t read in
@@ -388,7 +389,7 @@ assignment_found names n i j a h =
     let head = takes_then (takes_one names (scalar r) i m t found.0 (named_found names t (place.Scalar r) aux.0) (sym (ap (λ (z : ℕ × Input). z.1) same) ∙ found.1))
     (expect_found names s.Assign m o v (ap (expect s.Assign) (sym one.0) ∙ sets)) in
     let e1 = expression_found names o p b reads in (
-      subst (λ (q : AuxAssign × Input). Passed (IsAssignment names) i q.0 q.1) (ok_same (record { target = r; expr = b }, p) (a, j) end)
+      subst (λ (q : AuxAssign × Input). Passed (IsAssignment text_limits names) i q.0 q.1) (ok_same (record { target = r; expr = b }, p) (a, j) end)
           (record {
             is = record { mid = o.cursor; target = head.stand; auxiliary = aux.1; expr_is = e1.is };
             room = let hr = head.room in let er = e1.room in omega arith;
@@ -420,21 +421,21 @@ separator_found names i j b h =
 record Behind (names : NameTable) (n : ℕ) (found : List AuxAssign) (i : Input) (all : List AuxAssign) (j : Input) : Type 0 where
   rest : List AuxAssign
   are : all ≡ found ++ rest
-  is : AreAssignments names n i.cursor rest j.cursor
+  is : AreAssignments text_limits names n i.cursor rest j.cursor
   room : i.room ≡ j.room
 
-assignments_found : (names : NameTable) (n : ℕ) (found all : List AuxAssign) (i j : Input) → assignments_on names n found i ≡ Ok (all, j) → Behind names n found i all j
+assignments_found : (names : NameTable) (n : ℕ) (found all : List AuxAssign) (i j : Input) → assignments_on text_limits names n found i ≡ Ok (all, j) → Behind names n found i all j
 unfolding assignments_on
 assignments_found names zero found all i j h =
-    bind_then (assignment names zero i) _ (all, j) h (λ a l reads rest. absurd ((assignment_found names zero i l a reads).1 refl))
+    bind_then (assignment text_limits names zero i) _ (all, j) h (λ a l reads rest. absurd ((assignment_found names zero i l a reads).1 refl))
 assignments_found names (suc n) found all i j h =
-    bind_then (assignment names (suc n) i) _ (all, j) h (λ a l reads rest.
+    bind_then (assignment text_limits names (suc n) i) _ (all, j) h (λ a l reads rest.
     bind_then (separator l) _ (all, j) rest (λ b m sep rest2.
     by a l (assignment_found names (suc n) i l a reads).0 b m (separator_found names l m b sep) (λ v. assignments_found names n (found ++ a ∷ []) all v j) rest2))
   where
-    by : (a : AuxAssign) (l : Input) → Passed (IsAssignment names) i a l → (b : Bool) (m : Input) → Takes names (sign (if b then s.Comma else s.Greater) ∷ []) 0 l m
-        → ((v : Input) → assignments_on names n (found ++ a ∷ []) v ≡ Ok (all, j) → Behind names n (found ++ a ∷ []) v all j)
-        → (if b then assignments_on names n (found ++ a ∷ []) else pure (found ++ a ∷ [])) m ≡ Ok (all, j) → Behind names (suc n) found i all j
+    by : (a : AuxAssign) (l : Input) → Passed (IsAssignment text_limits names) i a l → (b : Bool) (m : Input) → Takes names (sign (if b then s.Comma else s.Greater) ∷ []) 0 l m
+        → ((v : Input) → assignments_on text_limits names n (found ++ a ∷ []) v ≡ Ok (all, j) → Behind names n (found ++ a ∷ []) v all j)
+        → (if b then assignments_on text_limits names n (found ++ a ∷ []) else pure (found ++ a ∷ [])) m ≡ Ok (all, j) → Behind names (suc n) found i all j
     by a l p true m t behind_it rest =
         let b = behind_it m rest in
         record {
@@ -453,23 +454,23 @@ assignments_found names (suc n) found all i j h =
           room = let pr = p.room in let tr = t.room in let ar = ap (λ q. q.room) at in omega arith;
         }
 
-pub bracket_found : (names : NameTable) (i j : Input) (b : List AuxAssign) → bracket names i ≡ Ok (b, j) → Passed (IsBracket names) i b j
+pub bracket_found : (names : NameTable) (i j : Input) (b : List AuxAssign) → bracket text_limits names i ≡ Ok (b, j) → Passed (IsBracket text_limits names) i b j
 unfolding bracket
 bracket_found names i j b h =
     bind_then (peek i) _ (b, j) h (λ t l sees rest.
     let p = peek_found i l t sees in
-    by t p.0 (is_sign s.Less t.kind) refl (subst (λ q. bracket_by names (is_sign s.Less t.kind) q ≡ Ok (b, j)) p.1 rest))
+    by t p.0 (is_sign s.Less t.kind) refl (subst (λ q. bracket_by text_limits names (is_sign s.Less t.kind) q ≡ Ok (b, j)) p.1 rest))
   where
-    by : (t : Lexeme) → token i.cursor ≡ Ok t → (c : Bool) → is_sign s.Less t.kind ≡ c → bracket_by names c i ≡ Ok (b, j) → Passed (IsBracket names) i b j
+    by : (t : Lexeme) → token i.cursor ≡ Ok t → (c : Bool) → is_sign s.Less t.kind ≡ c → bracket_by text_limits names c i ≡ Ok (b, j) → Passed (IsBracket text_limits names) i b j
     by t read true e rest =
-        bind_then (next i) (λ u. assignments_on names most_assignments []) (b, j) rest (λ w m takes rest2.
+        bind_then (next i) (λ u. assignments_on text_limits names most_assignments []) (b, j) rest (λ w m takes rest2.
         let found = next_found i m w takes in
         let a = assignments_found names most_assignments [] b m j rest2 in
         record {
           is = g.a_bracket b i.cursor m.cursor j.cursor (record { lexeme = t; read = read; matches = is_sign_found s.Less t.kind e; behind = ap (λ q. q.cursor) found.1 })
-              (subst (λ l. AreAssignments names most_assignments m.cursor l j.cursor) (sym a.are) a.is);
+              (subst (λ l. AreAssignments text_limits names most_assignments m.cursor l j.cursor) (sym a.are) a.is);
           room = let ar = a.room in let fr = ap (λ q. q.room) found.1 in omega arith;
         })
     by t read false e rest =
         let same = ok_same ([], i) (b, j) rest in
-        subst (λ (q : List AuxAssign × Input). Passed (IsBracket names) i q.0 q.1) same (record { is = g.no_bracket i.cursor; room = refl })
+        subst (λ (q : List AuxAssign × Input). Passed (IsBracket text_limits names) i q.0 q.1) same (record { is = g.no_bracket i.cursor; room = refl })

@@ -1,4 +1,5 @@
 -- What notes, tests, acts and brackets are spelled with stands for them.
+use Rattle.pg_program_text.specs.Limits.{text_limits}
 use Rattle.std.proofs.Common.{◌≡◌, ℕ, zero, suc, ◌≤◌, Bool, true, false, List, [], ◌∷◌, ◌++◌, length, refl, sym, ap, subst, arith}
 use Rattle.std.specs.Prelude.{codes}
 use Rattle.std.specs.List.{All}
@@ -40,7 +41,7 @@ use Rattle.pg_program_text.proofs.SpellingExprs.{expr_spells}
 use Rattle.pg_program_text.proofs.SpellingSigns.{assign_stands, not_equal_stands, less_stands, greater_stands, semicolon_stands, open_square_stands, close_square_stands, mfence_stands, sfence_stands, flush_stands, flushopt_stands, cas_stands}
 
 module _ (names : NameTable) (table : IsNameTable names) (are : AreNames names) where
-  whole_spells : (e : Expr) → WholeExpr names e → Spells Ends (λ from to. IsExpr names from e to) (spell_expr names e)
+  whole_spells : (e : Expr) → WholeExpr names e → Spells Ends (λ from to. IsExpr text_limits names from e to) (spell_expr names e)
   whole_spells e w =
       mapped (expr_spells names table are e most_open_brackets w.writable w.shallow) (λ from to is. record { nodes = nodes (tree e); is = is; few = w.few })
 
@@ -64,7 +65,7 @@ module _ (names : NameTable) (table : IsNameTable names) (are : AreNames names) 
   }
 
   pub note_spells : (f : Plain ViewAtom) → IsWhole formula_laws.IsWritable names f
-      → Spells Anything (λ from to. IsNote names from (with_atoms raw_of f) to) (codes "[" ++ (formula_spelling.spell (spell_atom names) f ++ codes "]"))
+      → Spells Anything (λ from to. IsNote text_limits names from (with_atoms raw_of f) to) (codes "[" ++ (formula_spelling.spell (spell_atom names) f ++ codes "]"))
   note_spells f w =
       mapped
       (joined (open_square_stands names) (joined (formula_spells f w) (close_square_stands names) (λ more ok. refl)) (λ more ok. tt))
@@ -83,7 +84,7 @@ module _ (names : NameTable) (table : IsNameTable names) (are : AreNames names) 
   -- ---- tests
 
   sided : (equal : Bool) (e : Expr) → WholeExpr names e
-      → Spells Ends (Then (Stands names (sign (equality equal))) (λ from to. IsExpr names from e to)) (spec.equality equal ++ spell_expr names e)
+      → Spells Ends (Then (Stands names (sign (equality equal))) (λ from to. IsExpr text_limits names from e to)) (spec.equality equal ++ spell_expr names e)
   sided true e w = blank (joined (equal_stands names) (blank (whole_spells e w)) (λ more ok. tt))
   sided false e w = blank (joined (not_equal_stands names) (blank (whole_spells e w)) (λ more ok. tt))
 
@@ -91,7 +92,7 @@ module _ (names : NameTable) (table : IsNameTable names) (are : AreNames names) 
   sign_ends true w more = refl
   sign_ends false w more = refl
 
-  pub test_spells : (c : Cond) → WholeTest names c → Spells Ends (λ from to. IsTest names from c to) (spell_test names c)
+  pub test_spells : (c : Cond) → WholeTest names c → Spells Ends (λ from to. IsTest text_limits names from c to) (spell_test names c)
   test_spells c w =
       mapped (joined (whole_spells c.left w.0) (sided c.equal c.right w.1) (λ more ok. sign_ends c.equal (spell_expr names c.right) more))
       (λ from to way. record { mid = way.0; behind = way.2.0; left = way.1; equality_is = way.2.1; right = way.2.2 })
@@ -99,19 +100,19 @@ module _ (names : NameTable) (table : IsNameTable names) (are : AreNames names) 
   -- ---- acts
 
   -- ` := e`
-  assigned : (e : Expr) → WholeExpr names e → Spells Ends (Then (Stands names (sign s.Assign)) (λ from to. IsExpr names from e to)) (codes " := " ++ spell_expr names e)
+  assigned : (e : Expr) → WholeExpr names e → Spells Ends (Then (Stands names (sign s.Assign)) (λ from to. IsExpr text_limits names from e to)) (codes " := " ++ spell_expr names e)
   assigned e w = blank (joined (assign_stands names) (blank (whole_spells e w)) (λ more ok. tt))
 
-  pub act_spells : (x : Act-F Act Stmt) → WholeAct names x → is_test_in x ≡ false → Spells Ends (λ from to. IsAct names from (roll-Act x) to) (spell_act names x)
+  pub act_spells : (x : Act-F Act Stmt) → WholeAct names x → is_test_in x ≡ false → Spells Ends (λ from to. IsAct text_limits names from (roll-Act x) to) (spell_act names x)
   act_spells (Assign r e) w h =
       mapped (joined (scalar_spells names r table are w.0) (assigned e w.1) (λ more ok. refl))
-      (λ from to way. subst (λ (a : Act). IsAct names from a to) (sym (act.rolls-Assign r e)) (an_assign r e from way.2.0 to (way.0, way.1, (way.2.0, way.2.1, refl)) way.2.2))
+      (λ from to way. subst (λ (a : Act). IsAct text_limits names from a to) (sym (act.rolls-Assign r e)) (an_assign r e from way.2.0 to (way.0, way.1, (way.2.0, way.2.1, refl)) way.2.2))
   act_spells (Store x e) w h =
       mapped (joined (location_spells names x table are w.0) (assigned e w.1) (λ more ok. refl))
-      (λ from to way. subst (λ (a : Act). IsAct names from a to) (sym (act.rolls-Store x e)) (a_store x e from way.2.0 to (way.0, way.1, (way.2.0, way.2.1, refl)) way.2.2))
+      (λ from to way. subst (λ (a : Act). IsAct text_limits names from a to) (sym (act.rolls-Store x e)) (a_store x e from way.2.0 to (way.0, way.1, (way.2.0, way.2.1, refl)) way.2.2))
   act_spells (Load r x) w h =
       mapped (joined (scalar_spells names r table are w.0) (blank (joined (assign_stands names) (blank (location_spells names x table are w.1)) (λ more ok. tt))) (λ more ok. refl))
-      (λ from to way. subst (λ (a : Act). IsAct names from a to) (sym (act.rolls-Load r x)) (a_load r x from to (way.0, way.1, (way.2.0, way.2.1, (to, way.2.2, refl)))))
+      (λ from to way. subst (λ (a : Act). IsAct text_limits names from a to) (sym (act.rolls-Load r x)) (a_load r x from to (way.0, way.1, (way.2.0, way.2.1, (to, way.2.2, refl)))))
   act_spells (Cas r x e d) w h =
       mapped
       (widened
@@ -133,29 +134,29 @@ module _ (names : NameTable) (table : IsNameTable names) (are : AreNames names) 
       let a6 = a5.2 in
       let a7 = a6.2 in
       let a8 = a7.2 in
-      subst (λ (a : Act). IsAct names from a to) (sym (act.rolls-Cas r x e d))
+      subst (λ (a : Act). IsAct text_limits names from a to) (sym (act.rolls-Cas r x e d))
       (a_cas r x e d from a5.0 a6.0 a7.0 a8.0 to
       (way.0, way.1, (a1.0, a1.1, (a2.0, a2.1, (a3.0, a3.1, (a4.0, a4.1, (a5.0, a5.1, refl)))))) a6.1 a7.1 a8.1 a8.2))
-  act_spells Mfence w h = mapped (mfence_stands names) (λ from to is. subst (λ (a : Act). IsAct names from a to) (sym act.rolls-Mfence) (an_mfence from to is))
-  act_spells Sfence w h = mapped (sfence_stands names) (λ from to is. subst (λ (a : Act). IsAct names from a to) (sym act.rolls-Sfence) (an_sfence from to is))
+  act_spells Mfence w h = mapped (mfence_stands names) (λ from to is. subst (λ (a : Act). IsAct text_limits names from a to) (sym act.rolls-Mfence) (an_mfence from to is))
+  act_spells Sfence w h = mapped (sfence_stands names) (λ from to is. subst (λ (a : Act). IsAct text_limits names from a to) (sym act.rolls-Sfence) (an_sfence from to is))
   act_spells (Flush x) w h =
       mapped (joined (flush_stands names) (blank (location_spells names x table are w)) (λ more ok. refl))
-      (λ from to way. subst (λ (a : Act). IsAct names from a to) (sym (act.rolls-Flush x)) (a_flush x from to (way.0, way.1, (to, way.2, refl))))
+      (λ from to way. subst (λ (a : Act). IsAct text_limits names from a to) (sym (act.rolls-Flush x)) (a_flush x from to (way.0, way.1, (to, way.2, refl))))
   act_spells (Flushopt x) w h =
       mapped (joined (flushopt_stands names) (blank (location_spells names x table are w)) (λ more ok. refl))
-      (λ from to way. subst (λ (a : Act). IsAct names from a to) (sym (act.rolls-Flushopt x)) (a_flushopt x from to (way.0, way.1, (to, way.2, refl))))
+      (λ from to way. subst (λ (a : Act). IsAct text_limits names from a to) (sym (act.rolls-Flushopt x)) (a_flushopt x from to (way.0, way.1, (to, way.2, refl))))
   act_spells (If c a b) w h = absurd (cc)
   act_spells (While c a) w h = absurd (cc)
 
   -- ---- brackets
 
-  assignment_spells : (a : AuxAssign) → WholeAssignment names a → Spells Ends (λ from to. IsAssignment names from a to) (spell_assignment names a)
+  assignment_spells : (a : AuxAssign) → WholeAssignment names a → Spells Ends (λ from to. IsAssignment text_limits names from a to) (spell_assignment names a)
   assignment_spells a w =
       mapped (joined (scalar_spells names a.target table are w.target) (assigned a.expr w.expr_is) (λ more ok. refl))
       (λ from to way. record { mid = way.2.0; target = (way.0, way.1, (way.2.0, way.2.1, refl)); auxiliary = w.auxiliary; expr_is = way.2.2 })
 
   assignments_spell : (n : ℕ) (a : AuxAssign) (rest : List AuxAssign) → length (a ∷ rest) ≤ n → All (WholeAssignment names) (a ∷ rest)
-      → Spells Anything (λ from to. AreAssignments names n from (a ∷ rest) to) (spell_assignment names a ++ further names rest)
+      → Spells Anything (λ from to. AreAssignments text_limits names n from (a ∷ rest) to) (spell_assignment names a ++ further names rest)
   assignments_spell zero a rest few w = absurd (omega arith)
   assignments_spell (suc n) a [] few w =
       mapped (joined (assignment_spells a (All-head (WholeAssignment names) a [] w)) (blank (greater_stands names)) (λ more ok. refl))
@@ -169,7 +170,7 @@ module _ (names : NameTable) (table : IsNameTable names) (are : AreNames names) 
 
   -- a bracket or none, and the `;` after it
   abbrev pub Ending : List AuxAssign → Cursor → Cursor → Type 0
-  Ending aux from to = (mid : Cursor) × IsBracket names from aux mid × Stands names (sign s.Semicolon) mid to
+  Ending aux from to = (mid : Cursor) × IsBracket text_limits names from aux mid × Stands names (sign s.Semicolon) mid to
 
   pub ending_spells : (aux : List AuxAssign) → All (WholeAssignment names) aux → length aux ≤ most_assignments
       → Spells Anything (Ending aux) (spell_bracket names aux ++ codes ";")

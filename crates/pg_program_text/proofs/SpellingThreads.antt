@@ -1,4 +1,5 @@
 -- What the lines of a thread are spelled with stands for its statements and notes.
+use Rattle.pg_program_text.specs.Limits.{text_limits}
 use Rattle.std.proofs.Common.{◌≡◌, ℕ, zero, suc, ◌+◌, ◌≤◌, true, false, max, List, [], ◌∷◌, ◌++◌, length, take, drop, map, refl, sym, ap, subst, ◌∙◌, arith, append_assoc}
 use Rattle.std.specs.Prelude.{codes, if◌then◌else◌}
 use Rattle.std.specs.List.{All}
@@ -64,10 +65,10 @@ module _ (names : NameTable) (table : IsNameTable names) (are : AreNames names) 
 
   -- from one place to another there stand lines, or a statement
   abbrev LinesAt : ℕ → List Stmt → List (Plain RawAtom) → Cursor → Cursor → Type 0
-  LinesAt n ss ns from to = IsPart names lines n from ss ns to
+  LinesAt n ss ns from to = IsPart text_limits names lines n from ss ns to
 
   abbrev StmtAt : ℕ → Stmt → List (Plain RawAtom) → Cursor → Cursor → Type 0
-  StmtAt n s ns from to = IsPart names stmt n from (s ∷ []) ns to
+  StmtAt n s ns from to = IsPart text_limits names stmt n from (s ∷ []) ns to
 
   abbrev stmt_of : Act-F Act Stmt → List AuxAssign → Stmt
   stmt_of x aux = roll-Stmt (record { act = roll-Act x; aux = aux })
@@ -92,14 +93,14 @@ module _ (names : NameTable) (table : IsNameTable names) (are : AreNames names) 
       lined depth (joined (close_brace_stands names) (blank (joined (else_stands names) (blank (open_brace_stands names)) (λ more ok. refl))) (λ more ok. tt)) (λ more. tt)
 
   if_line : (c : Cond) (depth : ℕ) → WholeTest names c
-      → Written (Then (Then (Stands names (word (spelling k.If))) (λ from to. IsTest names from c to)) (Stands names (sign s.OpenBrace))) (line depth ((codes "if " ++ spell_test names c) ++ codes " {"))
+      → Written (Then (Then (Stands names (word (spelling k.If))) (λ from to. IsTest text_limits names from c to)) (Stands names (sign s.OpenBrace))) (line depth ((codes "if " ++ spell_test names c) ++ codes " {"))
   if_line c depth w =
       lined depth
       (joined (joined (if_stands names) (blank (test_spells names table are c w)) (λ more ok. refl)) (blank (open_brace_stands names)) (λ more ok. refl))
       (λ more. tt)
 
   while_line : (c : Cond) (depth : ℕ) → WholeTest names c
-      → Written (Then (Then (Stands names (word (spelling k.While))) (λ from to. IsTest names from c to)) (Stands names (sign s.OpenBrace))) (line depth ((codes "while " ++ spell_test names c) ++ codes " {"))
+      → Written (Then (Then (Stands names (word (spelling k.While))) (λ from to. IsTest text_limits names from c to)) (Stands names (sign s.OpenBrace))) (line depth ((codes "while " ++ spell_test names c) ++ codes " {"))
   while_line c depth w =
       lined depth
       (joined (joined (while_stands names) (blank (test_spells names table are c w)) (λ more ok. refl)) (blank (open_brace_stands names)) (λ more ok. refl))
@@ -110,7 +111,7 @@ module _ (names : NameTable) (table : IsNameTable names) (are : AreNames names) 
   if_alone c ones n depth ns w whole inner =
       changed (followed (if_line c depth whole) (followed inner (close_line depth)))
       (λ from to way.
-      subst (λ (a : Act). IsPart names stmt (suc n) from (roll-Stmt (record { act = a; aux = [] }) ∷ []) (ns ++ []) to) (sym (act.rolls-If c ones []))
+      subst (λ (a : Act). IsPart text_limits names stmt (suc n) from (roll-Stmt (record { act = a; aux = [] }) ∷ []) (ns ++ []) to) (sym (act.rolls-If c ones []))
       (an_if (suc n) c ones [] ns [] from way.1.1.0 way.1.0 to to way.1.1.1 way.1.1.2 (in_braces n ones ns way.1.0 way.0 way.2.0 to way.1.2 way.2.1 way.2.2) (no_else (suc n) to)))
 
   if_both : (c : Cond) (ones twos : List Stmt) (n depth : ℕ) (ns ms : List (Plain RawAtom)) (w v : List ℕ) → WholeTest names c → Written (LinesAt n ones ns) w → Written (LinesAt n twos ms) v
@@ -123,7 +124,7 @@ module _ (names : NameTable) (table : IsNameTable names) (are : AreNames names) 
       let b = a.2 in
       let mid = b.1 in
       let d = b.2 in
-      subst (λ (a : Act). IsPart names stmt (suc n) from (roll-Stmt (record { act = a; aux = [] }) ∷ []) (ns ++ ms) to) (sym (act.rolls-If c ones twos))
+      subst (λ (a : Act). IsPart text_limits names stmt (suc n) from (roll-Stmt (record { act = a; aux = [] }) ∷ []) (ns ++ ms) to) (sym (act.rolls-If c ones twos))
       (an_if (suc n) c ones twos ns ms from head.1.0 head.0 mid.0 to head.1.1 head.1.2 (in_braces n ones ns head.0 way.0 a.0 mid.0 head.2 a.1 mid.1)
       (an_else (suc n) twos ms mid.0 mid.2.0 to mid.2.1 (in_braces n twos ms mid.2.0 b.0 d.0 to mid.2.2 d.1 d.2))))
 
@@ -132,8 +133,8 @@ module _ (names : NameTable) (table : IsNameTable names) (are : AreNames names) 
   while_written c body n depth ns w whole inner =
       changed (followed (while_line c depth whole) (followed inner (close_line depth)))
       (λ from to way.
-      subst (λ (ms : List (Plain RawAtom)). IsPart names stmt (suc n) from (stmt_of (While c body) [] ∷ []) ms to) (sym (append-nil ns))
-      (subst (λ (a : Act). IsPart names stmt (suc n) from (roll-Stmt (record { act = a; aux = [] }) ∷ []) ns to) (sym (act.rolls-While c body))
+      subst (λ (ms : List (Plain RawAtom)). IsPart text_limits names stmt (suc n) from (stmt_of (While c body) [] ∷ []) ms to) (sym (append-nil ns))
+      (subst (λ (a : Act). IsPart text_limits names stmt (suc n) from (roll-Stmt (record { act = a; aux = [] }) ∷ []) ns to) (sym (act.rolls-While c body))
       (a_while (suc n) c body ns from way.1.1.0 way.1.0 to way.1.1.1 way.1.1.2 (in_braces n body ns way.1.0 way.0 way.2.0 to way.1.2 way.2.1 way.2.2))))
 
   -- ---- a statement with its blocks
@@ -252,7 +253,7 @@ module _ (names : NameTable) (table : IsNameTable names) (are : AreNames names) 
       let together : Written X (note_line names depth (f ∷ fs) ++ (text ++ R)) =
       changed (followed note (followed of_s rest))
       (λ from to way.
-      subst (λ (ns : List (Plain RawAtom)). IsPart names lines n from (s ∷ ss) ns to) (notes_are (size a) (size b) (size r) f fs)
+      subst (λ (ns : List (Plain RawAtom)). IsPart text_limits names lines n from (s ∷ ss) ns to) (notes_are (size a) (size b) (size r) f fs)
       (a_line n (with_atoms raw_of f) s ss ms (raws (take (size r) behind)) from way.0 way.2.0 to way.1 way.2.1 way.2.2))
       in
       subst (λ (t : List ℕ). Written X (note_line names depth (f ∷ fs) ++ t)) (assoc (stmt_line names depth s) A (else_line depth b) B (last_line depth s) R) together
@@ -270,11 +271,11 @@ module _ (names : NameTable) (table : IsNameTable names) (are : AreNames names) 
 -- ---- threads
 
 ended_body : {names : NameTable} {n : ℕ} {ss : List Stmt} {ns : List (Plain RawAtom)} {from mid : Cursor} (g : Plain RawAtom) (to : Cursor)
-    → n ≡ most_open_blocks → IsPart names lines n from ss ns mid → IsNote names mid g to → IsBody names from ss (ns ++ g ∷ []) to
+    → n ≡ most_open_blocks → IsPart text_limits names lines n from ss ns mid → IsNote text_limits names mid g to → IsBody text_limits names from ss (ns ++ g ∷ []) to
 ended_body g to is (no_lines n from) last = last_note g from to last
 ended_body {names} g to is (a_line n f a ss ms ns from mid end behind note part rest) last =
-    subst (λ (fs : List (Plain RawAtom)). IsBody names from (a ∷ ss) (f ∷ fs) to) (sym (append_assoc ms ns (g ∷ [])))
-    (body_line f a ss ms (ns ++ g ∷ []) from mid end to note (subst (λ (m : ℕ). IsPart names stmt m mid (a ∷ []) ms end) is part) (ended_body g to is rest last))
+    subst (λ (fs : List (Plain RawAtom)). IsBody text_limits names from (a ∷ ss) (f ∷ fs) to) (sym (append_assoc ms ns (g ∷ [])))
+    (body_line f a ss ms (ns ++ g ∷ []) from mid end to note (subst (λ (m : ℕ). IsPart text_limits names stmt m mid (a ∷ []) ms end) is part) (ended_body g to is rest last))
 
 -- the last of the notes
 record Last (n : ℕ) (fs : Notes) : Type 0 where
@@ -291,7 +292,7 @@ last_of (suc n) (f ∷ fs) h =
     record { note = l.note; behind = l.behind; whole = ap (λ (t : Notes). f ∷ t) l.whole }
 
 -- the canonical text of a thread is its body, at each place that leads there
-pub body_written : (names : NameTable) (ss : List Stmt) (notes : Notes) → WholeThread names ss notes → Written (λ from to. IsBody names from ss (raws notes) to) (spell_thread names ss notes)
+pub body_written : (names : NameTable) (ss : List Stmt) (notes : Notes) → WholeThread names ss notes → Written (λ from to. IsBody text_limits names from ss (raws notes) to) (spell_thread names ss notes)
 body_written names ss notes w =
     let n = size (block ss) in
     let l = last_of n notes w.points in
@@ -300,12 +301,12 @@ body_written names ss notes w =
     let len = w.points in
     let before = lines_written names w.table w.names_are n ss most_open_blocks 1 notes (omega arith) w.stmts w.shallow (omega arith) w.formulas in
     let last = lined 1 (note_spells names w.table w.names_are l.note last_whole) (λ more. tt) in
-    let last_line : Written (λ from to. IsNote names from (with_atoms raw_of l.note) to) (note_line names 1 (drop n notes)) =
-    subst (λ (fs : Notes). Written (λ from to. IsNote names from (with_atoms raw_of l.note) to) (note_line names 1 fs)) (sym l.behind) last
+    let last_line : Written (λ from to. IsNote text_limits names from (with_atoms raw_of l.note) to) (note_line names 1 (drop n notes)) =
+    subst (λ (fs : Notes). Written (λ from to. IsNote text_limits names from (with_atoms raw_of l.note) to) (note_line names 1 fs)) (sym l.behind) last
     in
     let are : raws (take n notes) ++ with_atoms raw_of l.note ∷ [] ≡ raws notes = sym (ap raws l.whole ∙ map-append (with_atoms raw_of) (take n notes) (l.note ∷ [])) in
     changed (followed before last_line)
-    (λ from to way. subst (λ (ns : List (Plain RawAtom)). IsBody names from ss ns to) are (ended_body (with_atoms raw_of l.note) to refl way.1 way.2))
+    (λ from to way. subst (λ (ns : List (Plain RawAtom)). IsBody text_limits names from ss ns to) are (ended_body (with_atoms raw_of l.note) to refl way.1 way.2))
 
 pub threads_stand : ThreadsStand
 threads_stand names ss notes at more w =

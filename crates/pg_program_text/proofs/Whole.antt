@@ -1,4 +1,5 @@
 -- The statements and notes of a body are within the limits of a text.
+use Rattle.pg_program_text.specs.Limits.{text_limits}
 use Rattle.std.proofs.Common.{◌≡◌, ℕ, ◌+◌, ◌≤◌, Bool, true, false, List, [], ◌∷◌, length, map, refl, sym, ap, subst, ◌∙◌, arith}
 use Rattle.std.specs.List.{All}
 use Rattle.std.proofs.lemmas.List.{length-map}
@@ -134,7 +135,7 @@ phrase_fits names _ _ _ _ _ _ (grammar.a_difference m k n from mid behind to a b
     subst (Fits names grammar.expr m (1 + (k + n))) (sym (tree_difference a b))
     (difference_fits names m k n (tree a) (tree b) (phrase_fits names grammar.expr m k from a mid left) (phrase_fits names grammar.term m n behind b to right))
 
-whole_expr : (names : NameTable) (from : Cursor) (a : Expr) (to : Cursor) → IsExpr names from a to → WholeExpr names a
+whole_expr : (names : NameTable) (from : Cursor) (a : Expr) (to : Cursor) → IsExpr text_limits names from a to → WholeExpr names a
 whole_expr names from a to is =
     let h = phrase_fits names grammar.expr _ is.nodes from a to is.is in
     record {
@@ -143,12 +144,12 @@ whole_expr names from a to is =
       few = let few = is.few in let count = h.count in omega arith;
     }
 
-whole_test : (names : NameTable) (from : Cursor) (c : Cond) (to : Cursor) → IsTest names from c to → WholeTest names c
+whole_test : (names : NameTable) (from : Cursor) (c : Cond) (to : Cursor) → IsTest text_limits names from c to → WholeTest names c
 whole_test names from c to is = (whole_expr names from c.left is.mid is.left, whole_expr names is.behind c.right to is.right)
 
 -- ---- acts and brackets
 
-whole_act : (names : NameTable) (from : Cursor) (a : Act) (to : Cursor) → IsAct names from a to → WholeAct names (out-Act a)
+whole_act : (names : NameTable) (from : Cursor) (a : Act) (to : Cursor) → IsAct text_limits names from a to → WholeAct names (out-Act a)
 whole_act names _ _ _ (g.an_assign r a from mid to st is) =
     subst (WholeAct names) (sym (opened (act.Assign r a) (Assign r a) (act.rolls-Assign r a))) (item_fits names (scalar r) from st.0 st.1, whole_expr names mid a to is)
 whole_act names _ _ _ (g.a_store x a from mid to st is) =
@@ -168,11 +169,11 @@ record WholeBracket (names : NameTable) (n : ℕ) (b : List AuxAssign) : Type 0 
   assignments : All (WholeAssignment names) b
   few : length b ≤ n
 
-whole_assignment : (names : NameTable) (from : Cursor) (a : AuxAssign) (to : Cursor) → IsAssignment names from a to → WholeAssignment names a
+whole_assignment : (names : NameTable) (from : Cursor) (a : AuxAssign) (to : Cursor) → IsAssignment text_limits names from a to → WholeAssignment names a
 whole_assignment names from a to is =
     record { target = item_fits names (scalar a.target) from is.target.0 is.target.1; auxiliary = is.auxiliary; expr_is = whole_expr names is.mid a.expr to is.expr_is }
 
-whole_assignments : (names : NameTable) (n : ℕ) (from : Cursor) (b : List AuxAssign) (to : Cursor) → AreAssignments names n from b to → WholeBracket names n b
+whole_assignments : (names : NameTable) (n : ℕ) (from : Cursor) (b : List AuxAssign) (to : Cursor) → AreAssignments text_limits names n from b to → WholeBracket names n b
 whole_assignments names _ _ _ _ (g.the_last n a from mid to is st) = record {
   assignments = All-cons (WholeAssignment names) a [] (whole_assignment names from a mid is) (All-nil (WholeAssignment names));
   few = omega arith;
@@ -184,7 +185,7 @@ whole_assignments names _ _ _ _ (g.one_more n a rest from mid behind to is st ot
       few = let few = h.few in omega arith;
     }
 
-whole_bracket : (names : NameTable) (from : Cursor) (b : List AuxAssign) (to : Cursor) → IsBracket names from b to → WholeBracket names most_assignments b
+whole_bracket : (names : NameTable) (from : Cursor) (b : List AuxAssign) (to : Cursor) → IsBracket text_limits names from b to → WholeBracket names most_assignments b
 whole_bracket names _ _ _ (g.no_bracket from) = record { assignments = All-nil (WholeAssignment names); few = omega arith }
 whole_bracket names _ _ _ (g.a_bracket b from mid to st is) = whole_assignments names most_assignments mid b to is
 

@@ -4,6 +4,7 @@ pub mod Keywords
 pub mod Stmt
 pub mod Thread
 pub mod Grammar
+pub mod FirstFaults
 pub mod Text
 pub mod Spelling
 pub mod DeclaredNames

@@ -1,4 +1,5 @@
 -- The laws of spelling: the canonical text is in the grammar, and stands for what it was made of.
+use Rattle.pg_program_text.specs.Limits.{text_limits}
 use Rattle.std.specs.Prelude.{◌≡◌, ℕ, ◌+◌, ◌<◌, ◌≤◌, true, List, [], ◌++◌, length, map, All}
 use Rattle.pg_lex.specs.Lex.{Cursor, behind_gap}
 use Rattle.pg_program.specs.NameTable.{NameTable, IsNameTable, is_auxiliary}
@@ -82,7 +83,7 @@ pub record WholeThread (names : NameTable) (ss : List Stmt) (notes : List (Plain
 -- The body of a thread stands at a place. It ends where only blanks are left of its text.
 pub record BodyStands (names : NameTable) (ss : List Stmt) (notes : List (Plain ViewAtom)) (from behind : Cursor) : Type 0 where
   pub to : Cursor
-  pub body : IsBody names from ss (map (with_atoms raw_of) notes) to
+  pub body : IsBody text_limits names from ss (map (with_atoms raw_of) notes) to
   pub ends : behind_gap to ≡ behind_gap behind
 
 -- the text of a thread, at any place and with anything after it

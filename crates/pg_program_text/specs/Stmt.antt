@@ -18,8 +18,8 @@ use Rattle.pg_assertion.specs.declared.atom.RawAtom.{RawAtom}
 use Rattle.pg_assertion.specs.Formula.{Plain}
 use Rattle.pg_assertion_text.specs.Input.{Input, Outcome, Parser, ◌>>=◌, ◌>>◌, pure, refuse, allowed, peek, next, node, expect, is_sign, named, location}
 use Rattle.pg_assertion_text.specs.Atoms.{raw_atom}
-use Rattle.pg_assertion_text.specs.Parsing.{formula_at}
-use Rattle.pg_program_text.specs.Limits.{most_expression_nodes, most_open_brackets, most_assignments}
+use Rattle.pg_assertion_text.specs.Parsing.{formula_within}
+use Rattle.pg_program_text.specs.Limits.{Limits}
 use Rattle.pg_program_text.specs.declared.keyword.Keyword.{Keyword}
 use Rattle.pg_program_text.specs.declared.keyword.Keyword.TheVariants as k
 use Rattle.pg_program_text.specs.Keywords.{keyword}
@@ -35,15 +35,15 @@ with_room room (Err e) = Err e
 abbrev pub within : {A : Type 0} → ℕ → Parser A → Parser A
 within n p = λ i. with_room i.room (p (record i { room = n }))
 
-unfoldable pub expression : NameTable → Parser Expr
-expression names = within most_expression_nodes (sum (factor_of names most_open_brackets))
+unfoldable pub expression : Limits → NameTable → Parser Expr
+expression limits names = within limits.expression_nodes (sum (factor_of names limits.brackets))
 
 abbrev pub behind : {A : Type 0} → Input → Result (A × Cursor) TextFault → Outcome A
 behind i (Ok p) = Ok (p.0, record i { cursor = p.1 })
 behind i (Err e) = Err e
 
-unfoldable pub formula : NameTable → Parser (Plain RawAtom)
-formula names = λ i. behind i (formula_at raw_atom names i.cursor)
+unfoldable pub formula : Limits → NameTable → Parser (Plain RawAtom)
+formula limits names = λ i. behind i (formula_within limits.formula_brackets limits.formula_nodes raw_atom names i.cursor)
 
 abbrev pub opens_note : Lexeme → Parser (Unit {0})
 opens_note t = if is_sign s.OpenSquare t.kind then node t.place else refuse t.place Unexpected
@@ -55,9 +55,9 @@ opened = do
   opens_note t
 
 -- `[ formula ]`, the note of a point
-unfoldable pub note : NameTable → Parser (Plain RawAtom)
-note names = do
-  f ← (opened >> formula names)
+unfoldable pub note : Limits → NameTable → Parser (Plain RawAtom)
+note limits names = do
+  f ← (opened >> formula limits names)
   (expect s.CloseSquare >> pure f)
 
 -- ---- tests
@@ -75,71 +75,71 @@ test_sign = do
   t ← next
   settled (equal_at t)
 
-unfoldable pub a_test : NameTable → Parser Cond
-a_test names = do
-  a ← expression names
+unfoldable pub a_test : Limits → NameTable → Parser Cond
+a_test limits names = do
+  a ← expression limits names
   equal ← test_sign
-  b ← expression names
+  b ← expression limits names
   pure (record { left = a; right = b; equal = equal })
 
 -- ---- acts
 
 -- `, expr`
-unfoldable pub operand : NameTable → Parser Expr
-operand names = expect s.Comma >> expression names
+unfoldable pub operand : Limits → NameTable → Parser Expr
+operand limits names = expect s.Comma >> expression limits names
 
 -- `, expr )`
-unfoldable pub last_operand : NameTable → Parser Expr
-last_operand names = do
-  a ← operand names
+unfoldable pub last_operand : Limits → NameTable → Parser Expr
+last_operand limits names = do
+  a ← operand limits names
   (expect s.Close >> pure a)
 
 -- `( x , expected , desired )`, after `r := cas`
-unfoldable pub swap : NameTable → ℕ → Parser Act
-swap names r = do
+unfoldable pub swap : Limits → NameTable → ℕ → Parser Act
+swap limits names r = do
   x ← (expect s.Open >> location names)
-  a ← operand names
-  b ← last_operand names
+  a ← operand limits names
+  b ← last_operand limits names
   pure (act.Cas r x a b)
 
 -- a load where a location stands, and else an assignment
-abbrev pub load_or_assign : NameTable → ℕ → Result NameRef TextKind → Parser Act
-load_or_assign names r (Ok (place.Location x)) = next >> pure (act.Load r x)
-load_or_assign names r (Ok (place.Scalar q)) = expression names >>= (λ a. pure (act.Assign r a))
-load_or_assign names r (Err why) = expression names >>= (λ a. pure (act.Assign r a))
+abbrev pub load_or_assign : Limits → NameTable → ℕ → Result NameRef TextKind → Parser Act
+load_or_assign limits names r (Ok (place.Location x)) = next >> pure (act.Load r x)
+load_or_assign limits names r (Ok (place.Scalar q)) = expression limits names >>= (λ a. pure (act.Assign r a))
+load_or_assign limits names r (Err why) = expression limits names >>= (λ a. pure (act.Assign r a))
 
-abbrev pub assigned_by : NameTable → ℕ → Lexeme → Option Keyword → Parser Act
-assigned_by names r t (Some k.Cas) = next >> swap names r
-assigned_by names r t _ = load_or_assign names r (named names t)
+abbrev pub assigned_by : Limits → NameTable → ℕ → Lexeme → Option Keyword → Parser Act
+assigned_by limits names r t (Some k.Cas) = next >> swap limits names r
+assigned_by limits names r t _ = load_or_assign limits names r (named names t)
 
 -- what stands after `r :=`
-unfoldable pub assigned : NameTable → ℕ → Parser Act
-assigned names r = do
+unfoldable pub assigned : Limits → NameTable → ℕ → Parser Act
+assigned limits names r = do
   t ← peek
-  assigned_by names r t (keyword t)
+  assigned_by limits names r t (keyword t)
 
-abbrev pub to_name : NameTable → NameRef → Parser Act
-to_name names (place.Scalar r) = expect s.Assign >> assigned names r
-to_name names (place.Location x) = do
-  a ← (expect s.Assign >> expression names)
+abbrev pub to_name : Limits → NameTable → NameRef → Parser Act
+to_name limits names (place.Scalar r) = expect s.Assign >> assigned limits names r
+to_name limits names (place.Location x) = do
+  a ← (expect s.Assign >> expression limits names)
   pure (act.Store x a)
 
-abbrev pub named_act : NameTable → Lexeme → Parser Act
-named_act names t = do
+abbrev pub named_act : Limits → NameTable → Lexeme → Parser Act
+named_act limits names t = do
   r ← allowed t.place (named names t)
-  to_name names r
+  to_name limits names r
 
-abbrev pub act_by : NameTable → Lexeme → Option Keyword → Parser Act
-act_by names t (Some k.Mfence) = pure act.Mfence
-act_by names t (Some k.Sfence) = pure act.Sfence
-act_by names t (Some k.Flush) = location names >>= (λ x. pure (act.Flush x))
-act_by names t (Some k.Flushopt) = location names >>= (λ x. pure (act.Flushopt x))
-act_by names t _ = named_act names t
+abbrev pub act_by : Limits → NameTable → Lexeme → Option Keyword → Parser Act
+act_by limits names t (Some k.Mfence) = pure act.Mfence
+act_by limits names t (Some k.Sfence) = pure act.Sfence
+act_by limits names t (Some k.Flush) = location names >>= (λ x. pure (act.Flush x))
+act_by limits names t (Some k.Flushopt) = location names >>= (λ x. pure (act.Flushopt x))
+act_by limits names t _ = named_act limits names t
 
-unfoldable pub an_act : NameTable → Parser Act
-an_act names = do
+unfoldable pub an_act : Limits → NameTable → Parser Act
+an_act limits names = do
   t ← next
-  act_by names t (keyword t)
+  act_by limits names t (keyword t)
 
 -- ---- brackets
 
@@ -154,11 +154,11 @@ one_more place zero = refuse place TooMany
 one_more place (suc n) = pure tt
 
 -- `a := expr`, where n assignments may come
-unfoldable pub assignment : NameTable → ℕ → Parser AuxAssign
-assignment names n = do
+unfoldable pub assignment : Limits → NameTable → ℕ → Parser AuxAssign
+assignment limits names n = do
   t ← next
   r ← allowed t.place (auxiliary_in names (named names t))
-  a ← (one_more t.place n >> expect s.Assign >> expression names)
+  a ← (one_more t.place n >> expect s.Assign >> expression limits names)
   pure (record { target = r; expr = a })
 
 abbrev pub goes_on_or_ends : Lexeme → Parser Bool
@@ -171,21 +171,21 @@ separator = do
   goes_on_or_ends t
 
 -- at most n assignments, and one more turn to meet the one that is too many
-unfoldable pub assignments_on : NameTable → ℕ → List AuxAssign → Parser (List AuxAssign)
-assignments_on names zero found = do
-  a ← assignment names zero
+unfoldable pub assignments_on : Limits → NameTable → ℕ → List AuxAssign → Parser (List AuxAssign)
+assignments_on limits names zero found = do
+  a ← assignment limits names zero
   pure (found ++ a ∷ [])
-assignments_on names (suc n) found = do
-  a ← assignment names (suc n)
+assignments_on limits names (suc n) found = do
+  a ← assignment limits names (suc n)
   more ← separator
-  if more then assignments_on names n (found ++ a ∷ []) else pure (found ++ a ∷ [])
+  if more then assignments_on limits names n (found ++ a ∷ []) else pure (found ++ a ∷ [])
 
-abbrev pub bracket_by : NameTable → Bool → Parser (List AuxAssign)
-bracket_by names true = next >> assignments_on names most_assignments []
-bracket_by names false = pure []
+abbrev pub bracket_by : Limits → NameTable → Bool → Parser (List AuxAssign)
+bracket_by limits names true = next >> assignments_on limits names limits.assignments []
+bracket_by limits names false = pure []
 
 -- `< a := e, .. >`, or nothing
-unfoldable pub bracket : NameTable → Parser (List AuxAssign)
-bracket names = do
+unfoldable pub bracket : Limits → NameTable → Parser (List AuxAssign)
+bracket limits names = do
   t ← peek
-  bracket_by names (is_sign s.Less t.kind)
+  bracket_by limits names (is_sign s.Less t.kind)

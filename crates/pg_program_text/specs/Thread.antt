@@ -16,7 +16,7 @@ use Rattle.pg_assertion.specs.declared.atom.RawAtom.{RawAtom}
 use Rattle.pg_assertion.specs.Formula.{Plain}
 use Rattle.pg_assertion_text.specs.Input.{Parser, ◌>>=◌, ◌>>◌, pure, refuse, peek, next, expect, is_sign, named}
 use Rattle.pg_assertion_text.specs.Parsing.{placed}
-use Rattle.pg_program_text.specs.Limits.{most_points, most_open_blocks}
+use Rattle.pg_program_text.specs.Limits.{Limits, text_limits, most_points}
 use Rattle.pg_program_text.specs.declared.keyword.Keyword.{Keyword}
 use Rattle.pg_program_text.specs.declared.keyword.Keyword.TheVariants as k
 use Rattle.pg_program_text.specs.Keywords.{keyword}
@@ -48,16 +48,16 @@ abbrev pub with_stmt : Lines → Noted → Lines
 with_stmt l n = record { stmts = l.stmts ++ n.stmt ∷ []; notes = l.notes ++ n.notes }
 
 -- `bracket ;`
-unfoldable pub ending : NameTable → Parser (List AuxAssign)
-ending names = do
-  b ← bracket names
+unfoldable pub ending : Limits → NameTable → Parser (List AuxAssign)
+ending limits names = do
+  b ← bracket limits names
   (expect s.Semicolon >> pure b)
 
 -- `act bracket ;`
-unfoldable pub simple : NameTable → Parser Noted
-simple names = do
-  a ← an_act names
-  b ← ending names
+unfoldable pub simple : Limits → NameTable → Parser Noted
+simple limits names = do
+  a ← an_act limits names
+  b ← ending limits names
   pure (record { stmt = roll-Stmt (record { act = a; aux = b }); notes = [] })
 
 -- ---- blocks
@@ -73,28 +73,28 @@ ends = do
   ends_by (is_sign s.CloseBrace t.kind)
 
 -- one more note and its statement
-unfoldable pub line : NameTable → Parser Noted → Lines → Parser Lines
-line names stmt l = do
-  f ← note names
+unfoldable pub line : Limits → NameTable → Parser Noted → Lines → Parser Lines
+line limits names stmt l = do
+  f ← note limits names
   a ← stmt
   pure (with_stmt (with_note l f) a)
 
 -- the end of the lines, or one more line and the rest
-abbrev pub line_or_end : NameTable → Parser Noted → (Lines → Parser Lines) → Lines → Bool → Parser Lines
-line_or_end names stmt rest l true = pure l
-line_or_end names stmt rest l false = line names stmt l >>= rest
+abbrev pub line_or_end : Limits → NameTable → Parser Noted → (Lines → Parser Lines) → Lines → Bool → Parser Lines
+line_or_end limits names stmt rest l true = pure l
+line_or_end limits names stmt rest l false = line limits names stmt l >>= rest
 
 -- at most n turns
-unfoldable pub lines_on : NameTable → Parser Noted → ℕ → Lines → Parser Lines
-lines_on names stmt zero l = refuse 0 TooMany
-lines_on names stmt (suc n) l = do
+unfoldable pub lines_on : Limits → NameTable → Parser Noted → ℕ → Lines → Parser Lines
+lines_on limits names stmt zero l = refuse 0 TooMany
+lines_on limits names stmt (suc n) l = do
   end ← ends
-  line_or_end names stmt (lines_on names stmt n) l end
+  line_or_end limits names stmt (lines_on limits names stmt n) l end
 
 -- The lines of a block up to its `}`. Each has a note, which takes a point, so that there is at most one turn more than
 -- there are points to come.
-unfoldable pub lines : NameTable → Parser Noted → Parser Lines
-lines names stmt = λ i. lines_on names stmt (i.room + 1) no_lines i
+unfoldable pub lines : Limits → NameTable → Parser Noted → Parser Lines
+lines limits names stmt = λ i. lines_on limits names stmt (i.room + 1) no_lines i
 
 -- the fault of a brace that opens one block too many, or of a token that begins no block
 abbrev pub block_fault : Lexeme → TextFault
@@ -104,55 +104,55 @@ abbrev pub refuse_block : Lexeme → Parser Lines
 refuse_block t = λ i. Err (block_fault t)
 
 -- `{ lines }`, if one more block may be open
-abbrev pub block : NameTable → Option (Parser Noted) → Parser Lines
-block names None = next >>= refuse_block
-block names (Some stmt) = expect s.OpenBrace >> lines names stmt
+abbrev pub block : Limits → NameTable → Option (Parser Noted) → Parser Lines
+block limits names None = next >>= refuse_block
+block limits names (Some stmt) = expect s.OpenBrace >> lines limits names stmt
 
 -- ---- branches and loops
 
-abbrev pub else_by : NameTable → Option (Parser Noted) → Option Keyword → Parser Lines
-else_by names below (Some k.Else) = next >> block names below
-else_by names below _ = pure no_lines
+abbrev pub else_by : Limits → NameTable → Option (Parser Noted) → Option Keyword → Parser Lines
+else_by limits names below (Some k.Else) = next >> block limits names below
+else_by limits names below _ = pure no_lines
 
 -- `else` and a block, or no lines
-unfoldable pub else_part : NameTable → Option (Parser Noted) → Parser Lines
-else_part names below = do
+unfoldable pub else_part : Limits → NameTable → Option (Parser Noted) → Parser Lines
+else_part limits names below = do
   t ← peek
-  else_by names below (keyword t)
+  else_by limits names below (keyword t)
 
 -- a branch of its test and its two blocks
 abbrev pub joined : Cond → Lines → Lines → Noted
 joined c a b = record { stmt = bare (act.If c a.stmts b.stmts); notes = a.notes ++ b.notes }
 
-unfoldable pub branch : NameTable → Option (Parser Noted) → Parser Noted
-branch names below = do
-  c ← a_test names
-  a ← block names below
-  b ← else_part names below
+unfoldable pub branch : Limits → NameTable → Option (Parser Noted) → Parser Noted
+branch limits names below = do
+  c ← a_test limits names
+  a ← block limits names below
+  b ← else_part limits names below
   pure (joined c a b)
 
-unfoldable pub repeat : NameTable → Option (Parser Noted) → Parser Noted
-repeat names below = do
-  c ← a_test names
-  a ← block names below
+unfoldable pub repeat : Limits → NameTable → Option (Parser Noted) → Parser Noted
+repeat limits names below = do
+  c ← a_test limits names
+  a ← block limits names below
   pure (record { stmt = bare (act.While c a.stmts); notes = a.notes })
 
 -- ---- statements
 
-abbrev pub statement_by : NameTable → Option (Parser Noted) → Option Keyword → Parser Noted
-statement_by names below (Some k.If) = next >> branch names below
-statement_by names below (Some k.While) = next >> repeat names below
-statement_by names below _ = simple names
+abbrev pub statement_by : Limits → NameTable → Option (Parser Noted) → Option Keyword → Parser Noted
+statement_by limits names below (Some k.If) = next >> branch limits names below
+statement_by limits names below (Some k.While) = next >> repeat limits names below
+statement_by limits names below _ = simple limits names
 
-unfoldable pub statement_in : NameTable → Option (Parser Noted) → Parser Noted
-statement_in names below = do
+unfoldable pub statement_in : Limits → NameTable → Option (Parser Noted) → Parser Noted
+statement_in limits names below = do
   t ← peek
-  statement_by names below (keyword t)
+  statement_by limits names below (keyword t)
 
 -- with this many blocks that may be open
-unfoldable pub statement : NameTable → ℕ → Parser Noted
-statement names zero = statement_in names None
-statement names (suc n) = statement_in names (Some (statement names n))
+unfoldable pub statement : Limits → NameTable → ℕ → Parser Noted
+statement limits names zero = statement_in limits names None
+statement limits names (suc n) = statement_in limits names (Some (statement limits names n))
 
 -- ---- the body of a thread: a note, and statements with a note after each
 
@@ -167,32 +167,32 @@ unfoldable pub begins : NameTable → Lexeme → Bool
 begins names t = begins_by names t (keyword t)
 
 -- a statement after the last note, or none
-abbrev pub stmt_or_end : NameTable → Lines → Bool → Parser (Lines × Bool)
-stmt_or_end names l true = do
-  a ← statement names most_open_blocks
+abbrev pub stmt_or_end : Limits → NameTable → Lines → Bool → Parser (Lines × Bool)
+stmt_or_end limits names l true = do
+  a ← statement limits names limits.blocks
   pure (with_stmt l a, true)
-stmt_or_end names l false = pure (l, false)
+stmt_or_end limits names l false = pure (l, false)
 
 -- one more note, and whether the body goes on after it, with its statement then
-unfoldable pub line_of_body : NameTable → Lines → Parser (Lines × Bool)
-line_of_body names l = do
-  f ← note names
+unfoldable pub line_of_body : Limits → NameTable → Lines → Parser (Lines × Bool)
+line_of_body limits names l = do
+  f ← note limits names
   t ← peek
-  stmt_or_end names (with_note l f) (begins names t)
+  stmt_or_end limits names (with_note l f) (begins names t)
 
 abbrev pub body_goes_on : (Lines → Parser Lines) → Lines × Bool → Parser Lines
 body_goes_on rest p = if p.1 then rest p.0 else pure p.0
 
 -- at most n turns
-unfoldable pub body_on : NameTable → ℕ → Lines → Parser Lines
-body_on names zero l = refuse 0 TooMany
-body_on names (suc n) l = do
-  p ← line_of_body names l
-  body_goes_on (body_on names n) p
+unfoldable pub body_on : Limits → NameTable → ℕ → Lines → Parser Lines
+body_on limits names zero l = refuse 0 TooMany
+body_on limits names (suc n) l = do
+  p ← line_of_body limits names l
+  body_goes_on (body_on limits names n) p
 
-abbrev pub body : NameTable → Parser Lines
-body names = λ i. body_on names (i.room + 1) no_lines i
+abbrev pub body : Limits → NameTable → Parser Lines
+body limits names = λ i. body_on limits names (i.room + 1) no_lines i
 
 -- the body at a place and the place after it, or the first fault
 unfoldable pub thread_at : NameTable → Cursor → Result (Lines × Cursor) TextFault
-thread_at names c = placed (body names (record { cursor = c; room = most_points }))
+thread_at names c = placed (body text_limits names (record { cursor = c; room = most_points }))

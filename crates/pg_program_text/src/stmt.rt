@@ -8,6 +8,7 @@ ghost use Rattle.pg_assertion.specs.Formula.{plain};
 ghost use Rattle.pg_assertion_text.specs.Input.{Does, Reads};
 ghost use Rattle.pg_assertion_text.specs.Words.{IsText};
 ghost use Rattle.pg_program_text.specs.Limits.{most_assignments};
+ghost use Rattle.pg_program_text.specs.Limits.{text_limits};
 ghost use Rattle.pg_program_text.specs.Stmt as spec;
 
 use crate::expr::sum;
@@ -32,7 +33,7 @@ pub const MAX_ASSIGNMENTS: u32 = 4;
 /// An expression.
 #[tactic(auto, unfolding(crate::specs::Stmt::expression))]
 pub fn expression(alloc: Global, tokens: &mut Tokens<'_>, names: &Names) -> Result<Expr, TextFault>
-    ensures { Reads (λ a. a) (spec.expression names.now tokens.old) result tokens.new }
+    ensures { Reads (λ a. a) (spec.expression text_limits names.now tokens.old) result tokens.new }
 {
     let mut inner = Tokens::new(&tokens.lexer(), MAX_EXPR_NODES);
     let expr = sum(alloc, &mut inner, names, MAX_EXPR_OPEN)?;
@@ -47,7 +48,7 @@ fn formula(
     tokens: &mut Tokens<'_>,
     names: &Names,
 ) -> Result<Formula<RawAtom>, TextFault>
-    ensures { Reads plain (spec.formula names.now tokens.old) result tokens.new }
+    ensures { Reads plain (spec.formula text_limits names.now tokens.old) result tokens.new }
 {
     let mut lexer = tokens.lexer();
     let f = parse_formula(alloc, &mut lexer, names)?;
@@ -75,7 +76,7 @@ pub fn note(
     tokens: &mut Tokens<'_>,
     names: &Names,
 ) -> Result<Formula<RawAtom>, TextFault>
-    ensures { Reads plain (spec.note names.now tokens.old) result tokens.new }
+    ensures { Reads plain (spec.note text_limits names.now tokens.old) result tokens.new }
 {
     opened(tokens)?;
     let f = formula(alloc, tokens, names)?;
@@ -108,7 +109,7 @@ fn test_sign(tokens: &mut Tokens<'_>) -> Result<bool, TextFault>
 /// A test.
 #[tactic(auto, unfolding(crate::specs::Stmt::a_test))]
 pub fn test(alloc: Global, tokens: &mut Tokens<'_>, names: &Names) -> Result<Cond, TextFault>
-    ensures { Reads (λ c. c) (spec.a_test names.now tokens.old) result tokens.new }
+    ensures { Reads (λ c. c) (spec.a_test text_limits names.now tokens.old) result tokens.new }
 {
     let left = expression(alloc, tokens, names)?;
     let equal = test_sign(tokens)?;
@@ -119,7 +120,7 @@ pub fn test(alloc: Global, tokens: &mut Tokens<'_>, names: &Names) -> Result<Con
 /// `, expr`
 #[tactic(auto, unfolding(crate::specs::Stmt::operand))]
 fn operand(alloc: Global, tokens: &mut Tokens<'_>, names: &Names) -> Result<Expr, TextFault>
-    ensures { Reads (λ a. a) (spec.operand names.now tokens.old) result tokens.new }
+    ensures { Reads (λ a. a) (spec.operand text_limits names.now tokens.old) result tokens.new }
 {
     tokens.expect(Sign::Comma)?;
     expression(alloc, tokens, names)
@@ -128,7 +129,7 @@ fn operand(alloc: Global, tokens: &mut Tokens<'_>, names: &Names) -> Result<Expr
 /// `, expr )`
 #[tactic(auto, unfolding(crate::specs::Stmt::last_operand))]
 fn last_operand(alloc: Global, tokens: &mut Tokens<'_>, names: &Names) -> Result<Expr, TextFault>
-    ensures { Reads (λ a. a) (spec.last_operand names.now tokens.old) result tokens.new }
+    ensures { Reads (λ a. a) (spec.last_operand text_limits names.now tokens.old) result tokens.new }
 {
     let expr = operand(alloc, tokens, names)?;
     tokens.expect(Sign::Close)?;
@@ -138,7 +139,7 @@ fn last_operand(alloc: Global, tokens: &mut Tokens<'_>, names: &Names) -> Result
 /// `( x , expected , desired )`, after `r := cas`.
 #[tactic(auto, unfolding(crate::specs::Stmt::swap))]
 fn swap(alloc: Global, tokens: &mut Tokens<'_>, names: &Names, target: u8) -> Result<Act, TextFault>
-    ensures { Reads (λ a. a) (spec.swap names.now target tokens.old) result tokens.new }
+    ensures { Reads (λ a. a) (spec.swap text_limits names.now target tokens.old) result tokens.new }
 {
     tokens.expect(Sign::Open)?;
     let location = tokens.location(names)?;
@@ -160,7 +161,7 @@ fn assigned(
     names: &Names,
     target: u8,
 ) -> Result<Act, TextFault>
-    ensures { Reads (λ a. a) (spec.assigned names.now target tokens.old) result tokens.new }
+    ensures { Reads (λ a. a) (spec.assigned text_limits names.now target tokens.old) result tokens.new }
 {
     let token = tokens.peek()?;
     if let Some(Keyword::Cas) = keyword_at(&token) {
@@ -182,7 +183,7 @@ fn to_name(
     names: &Names,
     name: NameRef,
 ) -> Result<Act, TextFault>
-    ensures { Reads (λ a. a) (spec.to_name names.now name tokens.old) result tokens.new }
+    ensures { Reads (λ a. a) (spec.to_name text_limits names.now name tokens.old) result tokens.new }
 {
     tokens.expect(Sign::Assign)?;
     match name {
@@ -197,7 +198,7 @@ fn to_name(
 /// What a statement does, but for a branch or a loop.
 #[tactic(auto, unfolding(crate::specs::Stmt::an_act))]
 pub fn act(alloc: Global, tokens: &mut Tokens<'_>, names: &Names) -> Result<Act, TextFault>
-    ensures { Reads (λ a. a) (spec.an_act names.now tokens.old) result tokens.new }
+    ensures { Reads (λ a. a) (spec.an_act text_limits names.now tokens.old) result tokens.new }
 {
     let token = tokens.next()?;
     match keyword_at(&token) {
@@ -223,7 +224,7 @@ fn named_act(
     token: &Token<'_>,
 ) -> Result<Act, TextFault>
     requires { IsText (lexeme token.now) }
-    ensures { Reads (λ a. a) (spec.named_act names.now (lexeme token.now) tokens.old) result tokens.new }
+    ensures { Reads (λ a. a) (spec.named_act text_limits names.now (lexeme token.now) tokens.old) result tokens.new }
 {
     match named(names, token) {
         Ok(name) => to_name(alloc, tokens, names, name),
@@ -265,7 +266,7 @@ fn assignment(
     names: &Names,
     room: u32,
 ) -> Result<AuxAssign, TextFault>
-    ensures { Reads (λ a. a) (spec.assignment names.now room tokens.old) result tokens.new }
+    ensures { Reads (λ a. a) (spec.assignment text_limits names.now room tokens.old) result tokens.new }
 {
     let token = tokens.next()?;
     let target = match auxiliary(names, &token) {
@@ -301,7 +302,7 @@ fn assignments(
     tokens: &mut Tokens<'_>,
     names: &Names,
 ) -> Result<Items<AuxAssign>, TextFault>
-    ensures { Reads (λ a. a) (spec.assignments_on names.now most_assignments [] tokens.old) result tokens.new }
+    ensures { Reads (λ a. a) (spec.assignments_on text_limits names.now most_assignments [] tokens.old) result tokens.new }
 {
     let mut found = Items::new(alloc);
     'assignments: for i in 0..MAX_ASSIGNMENTS {
@@ -322,7 +323,7 @@ pub fn bracket(
     tokens: &mut Tokens<'_>,
     names: &Names,
 ) -> Result<Items<AuxAssign>, TextFault>
-    ensures { Reads (λ a. a) (spec.bracket names.now tokens.old) result tokens.new }
+    ensures { Reads (λ a. a) (spec.bracket text_limits names.now tokens.old) result tokens.new }
 {
     let token = tokens.peek()?;
     if !is_sign(Sign::Less, token.kind) {

@@ -6,10 +6,12 @@ ghost use Rattle.pg_lex.specs.Lex.{Cursor, lexeme};
 ghost use Rattle.pg_assertion.specs.Formula.{plain};
 ghost use Rattle.pg_assertion_text.specs.Input.{Does, Reads};
 ghost use Rattle.pg_assertion_text.specs.Words.{IsText};
+ghost use Rattle.pg_program_text.specs.Limits.{text_limits};
 ghost use Rattle.pg_program_text.specs.Thread as spec;
 ghost use Rattle.pg_program_text.specs.Thread.{Lines, with_note, with_stmt, no_lines};
 ghost use Rattle.pg_program_text.specs.Text.{lines, noted, ReadsAt, Answers};
 ghost use Rattle.pg_program_text.specs.Grammar.{IsThreadText};
+ghost use Rattle.pg_program_text.specs.FirstFaults.{BlamesToken};
 
 use crate::keyword::{Keyword, keyword_at};
 use crate::stmt::{act, bracket, note, test};
@@ -88,7 +90,7 @@ fn ending(
     tokens: &mut Tokens<'_>,
     names: &Names,
 ) -> Result<Items<AuxAssign>, TextFault>
-    ensures { Reads (λ b. b) (spec.ending names.now tokens.old) result tokens.new }
+    ensures { Reads (λ b. b) (spec.ending text_limits names.now tokens.old) result tokens.new }
 {
     let aux = bracket(alloc, tokens, names)?;
     tokens.expect(Sign::Semicolon)?;
@@ -98,7 +100,7 @@ fn ending(
 /// A statement that is no branch and no loop.
 #[tactic(auto, unfolding(crate::specs::Thread::simple))]
 fn simple(alloc: Global, tokens: &mut Tokens<'_>, names: &Names) -> Result<NotedStmt, TextFault>
-    ensures { Reads noted (spec.simple names.now tokens.old) result tokens.new }
+    ensures { Reads noted (spec.simple text_limits names.now tokens.old) result tokens.new }
 {
     let act = act(alloc, tokens, names)?;
     let aux = ending(alloc, tokens, names)?;
@@ -143,7 +145,7 @@ fn statement(
     names: &Names,
     levels: u32,
 ) -> Result<NotedStmt, TextFault>
-    ensures { Reads noted (spec.statement names.now levels tokens.old) result tokens.new }
+    ensures { Reads noted (spec.statement text_limits names.now levels tokens.old) result tokens.new }
 {
     let below = if levels == 0 { None } else { Some(levels - 1) };
     statement_in(alloc, tokens, names, below)
@@ -158,7 +160,7 @@ fn statement_in(
     names: &Names,
     below: Option<u32>,
 ) -> Result<NotedStmt, TextFault>
-    ensures { Reads noted (spec.statement_in names.now (option_map (spec.statement names.now) below) tokens.old) result tokens.new }
+    ensures { Reads noted (spec.statement_in text_limits names.now (option_map (spec.statement text_limits names.now) below) tokens.old) result tokens.new }
 {
     let token = tokens.peek()?;
     match keyword_at(&token) {
@@ -183,7 +185,7 @@ fn branch(
     names: &Names,
     below: Option<u32>,
 ) -> Result<NotedStmt, TextFault>
-    ensures { Reads noted (spec.branch names.now (option_map (spec.statement names.now) below) tokens.old) result tokens.new }
+    ensures { Reads noted (spec.branch text_limits names.now (option_map (spec.statement text_limits names.now) below) tokens.old) result tokens.new }
 {
     let test = test(alloc, tokens, names)?;
     let yes = block(alloc, tokens, names, below)?;
@@ -200,7 +202,7 @@ fn repeat(
     names: &Names,
     below: Option<u32>,
 ) -> Result<NotedStmt, TextFault>
-    ensures { Reads noted (spec.repeat names.now (option_map (spec.statement names.now) below) tokens.old) result tokens.new }
+    ensures { Reads noted (spec.repeat text_limits names.now (option_map (spec.statement text_limits names.now) below) tokens.old) result tokens.new }
 {
     let test = test(alloc, tokens, names)?;
     let body = block(alloc, tokens, names, below)?;
@@ -223,7 +225,7 @@ fn else_part(
     names: &Names,
     below: Option<u32>,
 ) -> Result<ThreadText, TextFault>
-    ensures { Reads lines (spec.else_part names.now (option_map (spec.statement names.now) below) tokens.old) result tokens.new }
+    ensures { Reads lines (spec.else_part text_limits names.now (option_map (spec.statement text_limits names.now) below) tokens.old) result tokens.new }
 {
     let token = tokens.peek()?;
     if let Some(Keyword::Else) = keyword_at(&token) {
@@ -241,7 +243,7 @@ fn block(
     names: &Names,
     below: Option<u32>,
 ) -> Result<ThreadText, TextFault>
-    ensures { Reads lines (spec.block names.now (option_map (spec.statement names.now) below) tokens.old) result tokens.new }
+    ensures { Reads lines (spec.block text_limits names.now (option_map (spec.statement text_limits names.now) below) tokens.old) result tokens.new }
 {
     match below {
         Some(levels) => {
@@ -264,7 +266,7 @@ fn block_lines(
     names: &Names,
     levels: u32,
 ) -> Result<ThreadText, TextFault>
-    ensures { Reads lines (spec.lines names.now (spec.statement names.now levels) tokens.old) result tokens.new }
+    ensures { Reads lines (spec.lines text_limits names.now (spec.statement text_limits names.now levels) tokens.old) result tokens.new }
 {
     let mut text = ThreadText::new(alloc);
     'lines: for _i in 0..tokens.turns() {
@@ -286,7 +288,7 @@ fn line(
     levels: u32,
     text: &mut ThreadText,
 ) -> Result<(), TextFault>
-    ensures { Reads (λ u. lines text.new) (spec.line names.now (spec.statement names.now levels) (lines text.old) tokens.old) result tokens.new }
+    ensures { Reads (λ u. lines text.new) (spec.line text_limits names.now (spec.statement text_limits names.now levels) (lines text.old) tokens.old) result tokens.new }
 {
     let note = note(alloc, tokens, names)?;
     text.add_note(note)?;
@@ -344,7 +346,7 @@ fn body_line(
     names: &Names,
     text: &mut ThreadText,
 ) -> Result<bool, TextFault>
-    ensures { Reads (λ more. (lines text.new, more)) (spec.line_of_body names.now (lines text.old) tokens.old) result tokens.new }
+    ensures { Reads (λ more. (lines text.new, more)) (spec.line_of_body text_limits names.now (lines text.old) tokens.old) result tokens.new }
 {
     let note = note(alloc, tokens, names)?;
     text.add_note(note)?;
@@ -359,7 +361,7 @@ fn body_line(
 
 /// The body of a thread: a note, and statements with a note after each.
 fn body(alloc: Global, tokens: &mut Tokens<'_>, names: &Names) -> Result<ThreadText, TextFault>
-    ensures { Reads lines (spec.body names.now tokens.old) result tokens.new }
+    ensures { Reads lines (spec.body text_limits names.now tokens.old) result tokens.new }
 {
     let mut text = ThreadText::new(alloc);
     'lines: for _i in 0..tokens.turns() {
@@ -396,6 +398,7 @@ pub fn parse_thread(
     ensures found { IfOk result (λ t. IsThreadText names.now lexer.old (lines t) lexer.new) }
     ensures only { (l : Lines) (to : Cursor) → IsThreadText names.now lexer.old l to → Answers l to result lexer.new }
     ensures exact { ReadsAt (spec.thread_at names.now lexer.old) result lexer.new }
+    ensures blames { BlamesToken names.now lexer.old result }
     ensures err { OnErr result (lexer.new ≡ lexer.old) }
 {
     read_thread(alloc, lexer, names)

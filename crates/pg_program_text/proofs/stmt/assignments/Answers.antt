@@ -1,4 +1,5 @@
 -- Each goal says what the bracket leads to, by what its turn met.
+use Rattle.pg_program_text.specs.Limits.{text_limits}
 use Rattle.std.proofs.Common.{rules, ◌≢◌, ◌∙◌, ◌+◌, ◌-◌, ap, sym, Ok}
 use Rattle.pg_lex.specs.declared.fault.TextFault.TheVariants.{NoMemory}
 use Rattle.pg_program_text.specs.Limits.{most_assignments}
@@ -28,7 +29,7 @@ pub assignments-preserved : goal.assignments-preserved
 assignments-preserved c =
     bracket_goes c.args.names.now most_assignments c.assignments.i c.assignments.found c.in_ok-next.next c.assignments.tokens c.assignment.new.tokens c.separator.new.tokens _ c.assignments-test.true c.assignments.invariant
     c.in_ok-next.ensures (c.in_ok-separator.ensures ∙ ap (λ b. Ok (b, c.separator.new.tokens)) c.if-not-branch.false)
-    ∙ ap (λ l. spec.assignments_on c.args.names.now (most_assignments - (c.assignments.i + 1)) l c.separator.new.tokens) (sym c.in_ok-push.ensures.ok)
+    ∙ ap (λ l. spec.assignments_on text_limits c.args.names.now (most_assignments - (c.assignments.i + 1)) l c.separator.new.tokens) (sym c.in_ok-push.ensures.ok)
 
 pub returns-in_err-assignment : goal.returns-in_err-assignment
 returns-in_err-assignment c =

@@ -1,3 +1,4 @@
+use Rattle.pg_program_text.specs.Limits.{text_limits}
 use Rattle.std.proofs.Common.{◌≡◌, ◌+◌, ◌-◌, ◌*◌}
 use Rattle.pg_assertion_text.specs.Below.{above}
 use Rattle.pg_program_text.specs.Thread as spec
@@ -31,5 +32,5 @@ decreases-block l = 8 * above l.below + 1
 -- what is left of the block gives what the whole block gives
 abbrev pub invariant-block_lines-lines : goal.invariant-block_lines-lines
 invariant-block_lines-lines l =
-    let stmt = spec.statement l.names l.levels in
-    spec.lines l.names stmt l.fn.tokens ≡ spec.lines_on l.names stmt (l._i-end - l._i) (lines l.text) l.tokens
+    let stmt = spec.statement text_limits l.names l.levels in
+    spec.lines text_limits l.names stmt l.fn.tokens ≡ spec.lines_on text_limits l.names stmt (l._i-end - l._i) (lines l.text) l.tokens
