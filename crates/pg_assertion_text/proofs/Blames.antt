@@ -18,7 +18,8 @@ use Rattle.pg_assertion_text.specs.Input.{Outcome, Parser}
 use Rattle.pg_assertion_text.specs.Reading.{formula, formula_of, arrows}
 use Rattle.pg_assertion_text.specs.Laws.{BeginsAtom}
 use Rattle.pg_assertion_text.specs.Parsing.{placed}
-use Rattle.pg_assertion_text.specs.FirstFaults.{ahead, Alike, GoesOn, FaultAt}
+use Rattle.pg_assertion_text.specs.Agreement.{ahead, Alike, FaultAt}
+use Rattle.pg_assertion_text.specs.FirstFaults.{GoesOn}
 use Rattle.pg_assertion_text.proofs.Complete.{at}
 use Rattle.pg_assertion_text.proofs.Moves.{ahead-add, Past, Moves}
 use Rattle.pg_assertion_text.proofs.Reaches.{Solid, ReachedAtom, reached}

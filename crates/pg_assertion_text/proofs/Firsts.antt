@@ -15,7 +15,8 @@ use Rattle.pg_assertion_text.specs.Reading.{formula}
 use Rattle.pg_assertion_text.specs.Laws.{FindsAtoms, ReadsAtoms, BeginsAtoms, BeginsAtom}
 use Rattle.pg_assertion_text.specs.Parsing.{formula_at, ReadsAt}
 use Rattle.pg_assertion_text.specs.SpellingLaws.{cursor}
-use Rattle.pg_assertion_text.specs.FirstFaults.{ahead, Alike, GoesOn, HasLocation, IsFirst, BlamesFirst}
+use Rattle.pg_assertion_text.specs.Agreement.{ahead, Alike}
+use Rattle.pg_assertion_text.specs.FirstFaults.{GoesOn, HasLocation, IsFirst, BlamesFirst}
 use Rattle.pg_assertion_text.proofs.SpellingTokens.{blank, here}
 use Rattle.pg_assertion_text.proofs.Complete.{at}
 use Rattle.pg_assertion_text.proofs.Moves.{Moves, ahead-add}

@@ -16,7 +16,8 @@ use Rattle.pg_assertion_text.specs.Input.{Input, Outcome, Parser, and_then, ◌>
 use Rattle.pg_assertion_text.specs.Atoms.{equals, of_name, raw_atom, crash_atom, crash_items, IsRaw, IsCrash}
 use Rattle.pg_assertion_text.specs.Parsing.{formula_at, ReadsAt}
 use Rattle.pg_assertion_text.specs.Spelling.{location_name}
-use Rattle.pg_assertion_text.specs.FirstFaults.{Alike, BlamesFirst}
+use Rattle.pg_assertion_text.specs.Agreement.{Alike}
+use Rattle.pg_assertion_text.specs.FirstFaults.{BlamesFirst}
 use Rattle.pg_assertion_text.proofs.Steps.{bind_value, allowed_then, next_found, node_found, stands_token, node_reads, named_reads}
 use Rattle.pg_assertion_text.proofs.AtomLaws.{raw_found, raw_again, raw_begins, item_of, named_matches, crash_items_are, crash_found, crash_again, crash_begins}
 use Rattle.pg_assertion_text.proofs.SpellingAtoms.{number_spells, location_spells}

@@ -21,7 +21,7 @@ use Rattle.pg_assertion_text.specs.Grammar.{Rule, Is, a_true, a_false, an_atom, 
 use Rattle.pg_assertion_text.specs.Grammar as g
 use Rattle.pg_assertion_text.specs.Laws.{BeginsAtom}
 use Rattle.pg_assertion_text.proofs.Steps.{bind_then, peek_found, next_found, node_found, goes_on_found, is_sign_found, stand-split}
-use Rattle.pg_assertion_text.specs.FirstFaults.{ahead, Alike, FaultAt, IsLimit}
+use Rattle.pg_assertion_text.specs.Agreement.{ahead, Alike, FaultAt, IsLimit}
 use Rattle.pg_assertion_text.proofs.Begins.{Opens, opens}
 use Rattle.pg_assertion_text.proofs.Complete.{at}
 use Rattle.pg_assertion_text.proofs.SpellingTokens.{widened, close_stands}

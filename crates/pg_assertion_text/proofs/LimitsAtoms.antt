@@ -22,7 +22,7 @@ use Rattle.pg_assertion_text.specs.Input as input
 use Rattle.pg_assertion_text.specs.Input.{Input, Outcome, Parser, and_then, ◌>>=◌, ◌>>◌, pure, refuse, allowed, next, node, expect, named, named_by, declared, number_in, location_in, scalar_in}
 use Rattle.pg_assertion_text.specs.Atoms.{equals, cell, thread, last, seen, read, two_reads, lettered, scalar_atom, raw_by, raw_atom, raw_items, IsRaw}
 use Rattle.pg_assertion_text.proofs.Steps.{allowed_then, next_found, named_found, scalar_in_found}
-use Rattle.pg_assertion_text.specs.FirstFaults.{IsLimit}
+use Rattle.pg_assertion_text.specs.Agreement.{IsLimit}
 use Rattle.pg_assertion_text.proofs.Reaches.{stands_like, item_solid}
 use Rattle.pg_assertion_text.proofs.Opens.{Easy}
 use Rattle.pg_assertion_text.proofs.OpensAtoms.{Slot, items_of, default, default_easy, opening, closing, comma, equal, a_number, a_location}

@@ -12,7 +12,7 @@ use Rattle.pg_lex.specs.Lex.{Cursor, Lexeme, token, after}
 use Rattle.pg_program.specs.NameTable.{NameTable}
 use Rattle.pg_assertion_text.specs.Input as input
 use Rattle.pg_assertion_text.specs.Input.{Input, Outcome, Parser, and_then, ◌>>=◌, ◌>>◌, pure, refuse, allowed, seen, peek, next, node, goes_on, expect, is_sign, number_in, location_in, named}
-use Rattle.pg_assertion_text.specs.FirstFaults.{ahead, Alike, FaultAt, IsLimit}
+use Rattle.pg_assertion_text.specs.Agreement.{ahead, Alike, FaultAt, IsLimit}
 use Rattle.pg_assertion_text.proofs.Complete.{at}
 use Rattle.pg_assertion_text.proofs.Moves.{ahead-add}
 use Rattle.pg_assertion_text.proofs.Reaches.{alike-at, alike-less, alike-rest}

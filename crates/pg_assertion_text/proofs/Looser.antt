@@ -23,7 +23,7 @@ use Rattle.pg_assertion_text.specs.Atoms.{equals, cell, thread, last, read, two_
 use Rattle.pg_assertion_text.specs.Atoms as atoms
 use Rattle.pg_assertion_text.specs.Reading.{chain_on, chain, implied, arrows_on, arrows, conjunction, disjunction, formula_of, start, truth, deeper, negated, bracketed, operand_by, operand, unary}
 use Rattle.pg_assertion_text.proofs.Steps.{goes_on_found}
-use Rattle.pg_assertion_text.specs.FirstFaults.{IsLimit}
+use Rattle.pg_assertion_text.specs.Agreement.{IsLimit}
 use Rattle.pg_assertion_text.proofs.Complete.{at}
 use Rattle.pg_assertion_text.proofs.Moves.{Moves, Past}
 use Rattle.pg_assertion_text.proofs.MovesFormula.{conjunction_moves, disjunction_moves, unary_moves}

@@ -11,7 +11,7 @@ use Rattle.pg_program.specs.NameTable.{NameTable}
 use Rattle.pg_assertion_text.specs.Input as input
 use Rattle.pg_assertion_text.specs.Input.{Input, Outcome, Parser, and_then, ◌>>=◌, ◌>>◌, pure, refuse, allowed, seen, peek, next, node, goes_on, expect, is_sign, number_in, location_in, named}
 use Rattle.pg_assertion_text.proofs.Steps.{next_found, peek_found}
-use Rattle.pg_assertion_text.specs.FirstFaults.{ahead, FaultAt}
+use Rattle.pg_assertion_text.specs.Agreement.{ahead, FaultAt}
 
 pub ahead-add : (k m : ℕ) (c : Cursor) → ahead k (ahead m c) ≡ ahead (m + k) c
 ahead-add k zero c = let e : k ≡ 0 + k = omega arith in ap (λ n. ahead n c) e

@@ -19,7 +19,8 @@ use Rattle.pg_assertion_text.specs.Grammar.{Rule, Is, a_true, a_false, an_atom, 
 use Rattle.pg_assertion_text.specs.Grammar as g
 use Rattle.pg_assertion_text.specs.Laws.{BeginsAtom}
 use Rattle.pg_assertion_text.proofs.Steps.{bind_then, peek_found, next_found, node_found, goes_on_found, stand-split}
-use Rattle.pg_assertion_text.specs.FirstFaults.{ahead, Alike, FaultAt, HasLocation}
+use Rattle.pg_assertion_text.specs.Agreement.{ahead, Alike, FaultAt}
+use Rattle.pg_assertion_text.specs.FirstFaults.{HasLocation}
 use Rattle.pg_assertion_text.proofs.Begins.{Opens, opens}
 use Rattle.std.proofs.lemmas.Bool.Decides.{leb_tells}
 use Rattle.pg_assertion_text.specs.Spelling.{Ends}

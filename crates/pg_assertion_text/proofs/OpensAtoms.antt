@@ -19,7 +19,7 @@ use Rattle.pg_assertion_text.specs.Input as input
 use Rattle.pg_assertion_text.specs.Input.{Input, Outcome, Parser, and_then, ◌>>=◌, ◌>>◌, pure, refuse, allowed, next, node, expect, named, number_in, location_in, scalar_in}
 use Rattle.pg_assertion_text.specs.Atoms.{equals, cell, thread, last, seen, read, two_reads, lettered, scalar_atom, raw_by, raw_atom, raw_items, IsRaw}
 use Rattle.pg_assertion_text.proofs.Steps.{ok_same, bind_then, allowed_then, next_found, node_found, expect_found, number_found, location_found, named_found, scalar_in_found, stand-append, stand-split}
-use Rattle.pg_assertion_text.specs.FirstFaults.{ahead, Alike, FaultAt}
+use Rattle.pg_assertion_text.specs.Agreement.{ahead, Alike, FaultAt}
 use Rattle.pg_assertion_text.proofs.SpellingTokens.{widened, open_stands, close_stands, comma_stands, equal_stands}
 use Rattle.pg_assertion_text.proofs.Moves.{ahead-add}
 use Rattle.pg_assertion_text.proofs.Reaches.{alike-split, Solid, solid_from}

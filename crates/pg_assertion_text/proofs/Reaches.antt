@@ -16,7 +16,7 @@ use Rattle.pg_assertion_text.specs.Grammar.{Rule, Is, a_true, a_false, an_atom, 
 use Rattle.pg_assertion_text.specs.Grammar as g
 use Rattle.pg_assertion_text.specs.Laws.{BeginsAtom}
 use Rattle.pg_assertion_text.proofs.Steps.{goes_on_reads, stands_token}
-use Rattle.pg_assertion_text.specs.FirstFaults.{ahead, Alike}
+use Rattle.pg_assertion_text.specs.Agreement.{ahead, Alike}
 use Rattle.pg_assertion_text.proofs.Begins.{negation_begins, bracket_begins}
 use Rattle.pg_assertion_text.proofs.Complete.{at, claims, operand_of, opened, counted, leaves_other, arrow_turn, disj_whole}
 use Rattle.pg_assertion_text.proofs.Moves.{ahead-add, Past, Moves, shift, bind_at, bind_moves, moves_then, moves_pure, expect_moves}

@@ -13,7 +13,7 @@ use Rattle.pg_assertion_text.specs.Input as input
 use Rattle.pg_assertion_text.specs.Input.{Input, Outcome, Parser, and_then, ◌>>=◌, ◌>>◌, pure, allowed, node, expect, named, scalar_in}
 use Rattle.pg_assertion_text.specs.Atoms.{equals, cell, thread, last, seen, read, two_reads, lettered, raw_by, raw_atom, raw_items, IsRaw}
 use Rattle.pg_assertion_text.proofs.Steps.{bind_value, stands_token, stand-split, node_reads, named_reads, expect_reads, number_reads, location_reads}
-use Rattle.pg_assertion_text.specs.FirstFaults.{ahead, Alike}
+use Rattle.pg_assertion_text.specs.Agreement.{ahead, Alike}
 use Rattle.pg_assertion_text.proofs.Complete.{at}
 use Rattle.pg_assertion_text.proofs.Moves.{ahead-add, Past, Moves, shift, bind_moves, moves_then, moves_pure, expect_moves, number_moves, location_moves}
 use Rattle.pg_assertion_text.proofs.MovesAtoms.{comma_moves, cell_moves, thread_moves, closed_moves, second_moves, raw_moves}

@@ -13,7 +13,7 @@ use Rattle.pg_lex.specs.Laws.{SplitsText}
 use Rattle.pg_lex.proofs.Signs.{sign_is_longest}
 use Rattle.pg_lex.proofs.Cursors.{munches_most, tokens_split_text}
 use Rattle.pg_lex.proofs.Reading.{grammar_is_read}
-use Rattle.pg_assertion_text.specs.FirstFaults.{ahead, Alike}
+use Rattle.pg_assertion_text.specs.Agreement.{ahead, Alike}
 use Rattle.pg_assertion_text.proofs.Reaches.{Solid}
 use Rattle.pg_assertion_text.proofs.Blames.{token_is_long}
 

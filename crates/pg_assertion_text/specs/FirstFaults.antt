@@ -1,26 +1,15 @@
 -- The first fault of a text, in the words of the grammar: the first token with which the text begins no formula any more.
-use Rattle.std.specs.Prelude.{◌≡◌, ◌≢◌, Result, ◌⊎◌, ℕ, zero, suc, ◌+◌, ◌<◌, ◌≤◌, length, Ok, Err}
+use Rattle.std.specs.Prelude.{◌≢◌, Result, ℕ, suc, ◌+◌, ◌<◌, ◌≤◌, length, Ok, Err}
 use Rattle.pg_lex.specs.declared.fault.TextFault.{TextFault}
-use Rattle.pg_lex.specs.declared.fault.TextFault.TheVariants.{At, NoMemory}
-use Rattle.pg_lex.specs.declared.fault.TextKind.{TextKind}
-use Rattle.pg_lex.specs.declared.fault.TextKind.TheVariants.{TooMany, TooDeep}
-use Rattle.pg_lex.specs.Lex.{Cursor, Lexeme, token, after}
+use Rattle.pg_lex.specs.declared.fault.TextFault.TheVariants.{NoMemory}
+use Rattle.pg_lex.specs.Lex.{Cursor}
 use Rattle.pg_program.specs.NameTable.{NameTable}
 use Rattle.pg_assertion_text.specs.Spelling.{AreNames}
 use Rattle.pg_assertion.specs.Formula.{Plain, nodes}
 use Rattle.pg_assertion_text.specs.Grammar as grammar
 use Rattle.pg_assertion_text.specs.Grammar.{Is}
+use Rattle.pg_assertion_text.specs.Agreement.{ahead, Alike, FaultAt, IsLimit}
 use Rattle.pg_assertion_text.specs.declared.parse.TheConstants.{MAX_NODES, MAX_OPEN}
-
--- the place behind the next m tokens
-abbrev pub ahead : ℕ → Cursor → Cursor
-ahead zero c = c
-ahead (suc m) c = ahead m (after c)
-
--- the next m tokens are the same in both texts, and stand at the same places
-abbrev pub Alike : ℕ → Cursor → Cursor → Type 0
-Alike zero c d = Unit {0}
-Alike (suc m) c d = (token c ≡ token d) × Alike m (after c) (after d)
 
 -- Some text, whose next tokens are the same so far, has at this place a formula within the limits that goes on beyond the next m tokens.
 pub record GoesOn {T : Type 0} (stands : NameTable → Cursor → T → Cursor → Type 0) (names : NameTable) (open_most nodes_most same m : ℕ) (c : Cursor) : Type 0 where
@@ -31,14 +20,6 @@ pub record GoesOn {T : Type 0} (stands : NameTable → Cursor → T → Cursor �
   pub is : Is names (stands names) grammar.formula open_most text formula to
   pub few : nodes formula ≤ nodes_most
   pub beyond : (ahead m text).at < to.at
-
--- the fault is at the token behind the next m, or is the lexer's own there
-abbrev pub FaultAt : Cursor → ℕ → TextFault → Type 0
-FaultAt c m e = ((l : Lexeme) × (why : TextKind) × (token (ahead m c) ≡ Ok l) × (e ≡ At l.place why)) ⊎ (token (ahead m c) ≡ Err e)
-
--- the fault of a limit
-abbrev pub IsLimit : TextFault → Type 0
-IsLimit e = (place : ℕ) × ((e ≡ At place TooMany) ⊎ (e ≡ At place TooDeep))
 
 -- a location is declared, and each name is one of the grammar
 pub record HasLocation (names : NameTable) : Type 0 where

@@ -13,4 +13,5 @@ pub mod Parts
 pub mod SpellingLaws
 pub mod ReadAgain
 pub mod Within
+pub mod Agreement
 pub mod FirstFaults

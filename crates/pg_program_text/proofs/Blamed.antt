@@ -22,7 +22,7 @@ use Rattle.pg_assertion.specs.Formula.{Plain}
 use Rattle.pg_assertion_text.specs.Words.{sign}
 use Rattle.pg_lex.specs.declared.token.Sign.TheVariants as s
 use Rattle.pg_assertion_text.specs.Input.{Input, Outcome, Parser, and_then}
-use Rattle.pg_assertion_text.specs.FirstFaults.{ahead, Alike, FaultAt, IsLimit}
+use Rattle.pg_assertion_text.specs.Agreement.{ahead, Alike, FaultAt, IsLimit}
 use Rattle.pg_assertion_text.proofs.Moves.{ahead-add}
 use Rattle.pg_assertion_text.proofs.Reaches.{Solid, item_solid, alike-at, alike-less}
 use Rattle.pg_assertion_text.proofs.Blames.{ahead_less, not_both, placed_err}

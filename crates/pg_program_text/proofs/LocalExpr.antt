@@ -12,7 +12,7 @@ use Rattle.pg_program.specs.NameTable.{NameTable, empty_table}
 use Rattle.pg_program.specs.declared.syntax.Expr.{Expr}
 use Rattle.pg_program.specs.declared.syntax.Expr.TheVariants as e
 use Rattle.pg_assertion_text.specs.Input.{Input, Outcome, Parser, and_then, ◌>>=◌, ◌>>◌, pure, refuse, node, goes_on, expect, is_sign, named, scalar_in}
-use Rattle.pg_assertion_text.specs.FirstFaults.{IsLimit}
+use Rattle.pg_assertion_text.specs.Agreement.{IsLimit}
 use Rattle.pg_assertion_text.proofs.Steps.{ok_same, bind_then, goes_on_found, goes_on_stops}
 use Rattle.pg_assertion_text.proofs.Local.{Grown, grown_less, Same, Local, taken, refused, limited, allowed_then, chosen, node_then, token_local, local_then, local_pure, local_goes, turns_on, onwards, Turns, Spends, loop_free, loop_local, no_rise}
 use Rattle.pg_assertion_text.proofs.LocalFormula.{local_made, local_closed}

@@ -20,7 +20,7 @@ use Rattle.pg_assertion_text.specs.Input.{Input, Outcome, Parser, and_then, ◌>
 use Rattle.pg_assertion_text.specs.Atoms.{raw_atom}
 use Rattle.pg_assertion_text.specs.Parsing.{placed}
 use Rattle.pg_assertion_text.specs.Reading as reading
-use Rattle.pg_assertion_text.specs.FirstFaults.{IsLimit}
+use Rattle.pg_assertion_text.specs.Agreement.{IsLimit}
 use Rattle.pg_assertion_text.proofs.Steps.{bind_then, node_found, next_found}
 use Rattle.pg_assertion_text.proofs.Local.{Grown, grown_less, Same, Local, known, bind_is, taken, refused, limited, allowed_then, chosen, node_then, token_local, peek_local, local_behind, local_then, local_pure, local_location, no_rise}
 use Rattle.pg_assertion_text.proofs.LocalFormula.{formula_local, local_made, local_closed, local_opened}

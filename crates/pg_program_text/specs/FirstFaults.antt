@@ -4,7 +4,7 @@ use Rattle.pg_lex.specs.declared.fault.TextFault.{TextFault}
 use Rattle.pg_lex.specs.declared.fault.TextFault.TheVariants.{NoMemory}
 use Rattle.pg_lex.specs.Lex.{Cursor}
 use Rattle.pg_program.specs.NameTable.{NameTable}
-use Rattle.pg_assertion_text.specs.FirstFaults.{ahead, Alike, FaultAt, IsLimit}
+use Rattle.pg_assertion_text.specs.Agreement.{ahead, Alike, FaultAt, IsLimit}
 use Rattle.pg_program_text.specs.Limits.{Limits, text_limits, AreLarger}
 use Rattle.pg_program_text.specs.Thread.{Lines}
 use Rattle.pg_program_text.specs.Grammar.{IsBody, BeginsNone}
