@@ -1447,7 +1447,7 @@ const TORN_TRACE: &[u8] = b"\
 
 static BESIDE: [Beside; 23] = [
     // A derivation, and what spoils it: clauses that are no conflict, that there are not, that are no unit; a tree too few, and one too
-    // many; no end, nothing at all, another version; a split without its branches; a name that no derivation has.
+    // many; no end, nothing at all, another version; a split without its branches.
     Beside {
         command: "verify",
         outline: NOTHING,
