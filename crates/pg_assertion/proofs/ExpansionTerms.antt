@@ -1,13 +1,14 @@
 -- Conjunctions that are made conjunct by conjunct, and the terms of the choices that are made value by value.
-use Rattle.std.proofs.Common.{◌≡◌, ◌∙◌, sym, ap, refl, ℕ, zero, suc, ◌+◌, ◌-◌, ◌<◌, Bool, cond, List, [], ◌∷◌, ◌++◌, map, take, length, append_assoc, zero-add, add-one, arith}
-use Rattle.std.specs.Prelude.{Option, Some, None}
+use Rattle.std.proofs.Common.{◌≡◌, ◌∙◌, sym, ap, refl, ℕ, zero, suc, ◌+◌, ◌-◌, ◌<◌, ◌≤◌, Bool, cond, List, [], ◌∷◌, ◌++◌, map, take, drop, length, append_assoc, zero-add, add-one, arith}
+use Rattle.std.specs.Prelude.{Option, Some, None, Result, Ok, Err, IfOk, OnOk, slice_index_or}
 use Rattle.std.specs.List.{filter, fold, flat_map, range_with_len}
-use Rattle.std.proofs.lemmas.List.{map-append, append-nil, take_at, length-append}
+use Rattle.std.proofs.lemmas.List.{map-append, append-nil, take_at, take_all, length-append}
 use Rattle.std.proofs.lemmas.List.Concat.{flat_map-append}
 use Rattle.std.proofs.lemmas.List.Elements.{filter-append}
 use Rattle.pg_assertion.specs.declared.atom.ViewAtom.{ViewAtom}
 use Rattle.pg_assertion.specs.declared.atom.CrashAtom.{CrashAtom}
-use Rattle.pg_assertion.specs.Formula.{Plain, both}
+use Rattle.pg_assertion.specs.declared.formula.Formula.{Formula}
+use Rattle.pg_assertion.specs.Formula.{Plain, plain, both}
 use Rattle.pg_assertion.specs.Expansion.{mentions, named, conjunction, joined, joined_all, or_true, term, terms, vectors, expansion_over}
 
 pub joined_all-some : (f : Plain ViewAtom) (fs : List (Plain ViewAtom)) → joined_all (Some f) fs ≡ Some (fold both f fs)
@@ -80,6 +81,37 @@ joined_all-more d n x xs c c' l f b w w' same pushed was is =
     ∙ sym (joined_all-append b (terms_below d n x xs c f) (terms d xs (c ++ (x, n) ∷ []) f))
     ∙ sym (ap (joined_all b) (terms_below-more d n x xs c f))
 
+-- the term of a choice that is whole is the last one
+pub joined_all-last :
+    (d : ℕ) (xs : List ℕ) (c l : List (ℕ × ℕ)) (f : Plain CrashAtom) (b w : Option (Plain ViewAtom)) (g : Plain ViewAtom)
+    → length xs < 1
+    → l ≡ c
+    → g ≡ term f l
+    → w ≡ Some (joined b g)
+    → w ≡ joined_all b (terms d xs c f)
+joined_all-last d [] c l f b w g none same is was =
+    was ∙ ap (λ (k : Plain ViewAtom). Some (joined b k)) (is ∙ ap (term f) (same ∙ sym (append-nil c)))
+joined_all-last d (x ∷ xs) c l f b w g none same is was = absurd (omega arith)
+
+-- once each value of the first location is chosen, all terms are joined
+pub joined_all-whole :
+    (d v : ℕ) (xs : List ℕ) (c : List (ℕ × ℕ)) (f : Plain CrashAtom) (b w : Option (Plain ViewAtom))
+    → 1 ≤ length xs
+    → d ≤ v
+    → v ≤ d
+    → w ≡ joined_all b (terms_below d v (slice_index_or xs 0 0) (take (length xs - 1) (drop 1 xs)) c f)
+    → w ≡ joined_all b (terms d xs c f)
+joined_all-whole d v [] c f b w some least most is = absurd (omega arith)
+joined_all-whole d v (x ∷ xs) c f b w some least most is =
+    let all : take (length (x ∷ xs) - 1) xs ≡ xs = take_all (length (x ∷ xs) - 1) xs (omega arith) in
+    let end : v ≡ d = omega arith in
+    is ∙ ap (λ (k : List ℕ). joined_all b (terms_below d v x k c f)) all ∙ ap (λ (n : ℕ). joined_all b (terms_below d n x xs c f)) end
+
+-- what follows where there is no fault
+pub owes_less : {T E : Type 0} (r : Result T E) (P Q : Type 0) → (P → Q) → OnOk r P → OnOk r Q
+owes_less (Ok v) P Q step h = step h
+owes_less (Err e) P Q step h = tt
+
 -- what was pushed is popped
 pub popped : (c l p s q : List (ℕ × ℕ)) (e : ℕ × ℕ) (n : ℕ) → l ≡ c → p ≡ l ++ e ∷ [] → s ≡ p → n ≡ length s → q ≡ take (n - 1) s → q ≡ c
 popped c l p s q e n same pushed kept long is =
@@ -93,13 +125,12 @@ whole d [] f some = absurd (omega arith)
 whole d (x ∷ xs) f some = joined_all_none (map (term f) (vectors d (x ∷ xs)))
 
 pub expansion_over-joined :
-    (d : ℕ) (xs l : List ℕ) (c : List (ℕ × ℕ)) (f : Plain CrashAtom) (w : Option (Plain ViewAtom))
+    {E : Type 0} (r : Result (Formula ViewAtom) E) (d : ℕ) (xs l : List ℕ) (f : Plain CrashAtom)
     → l ≡ xs
     → 0 < length l
-    → c ≡ []
-    → w ≡ joined_all None (terms d l c f)
-    → or_true w ≡ expansion_over d xs f
-expansion_over-joined d xs l c f w same some none is =
+    → IfOk r (λ g. plain g ≡ or_true (joined_all None (terms d l [] f)))
+    → IfOk r (λ g. plain g ≡ expansion_over d xs f)
+expansion_over-joined (Ok g) d xs l f same some is =
     let long : 0 < length xs = omega (arith, ap length same) in
-    ap or_true (is ∙ ap (λ (k : List (ℕ × ℕ)). joined_all None (terms d l k f)) none ∙ ap (λ (k : List ℕ). joined_all None (terms d k [] f)) same)
-    ∙ whole d xs f long
+    is ∙ ap (λ (k : List ℕ). or_true (joined_all None (terms d k [] f))) same ∙ whole d xs f long
+expansion_over-joined (Err e) d xs l f same some is = tt

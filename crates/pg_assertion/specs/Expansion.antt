@@ -8,6 +8,8 @@ use Rattle.pg_assertion.specs.declared.atom.ViewAtom.{ViewAtom}
 use Rattle.pg_assertion.specs.declared.atom.ViewAtom.TheVariants as view
 use Rattle.pg_assertion.specs.declared.atom.CrashAtom.{CrashAtom}
 use Rattle.pg_assertion.specs.declared.atom.CrashAtom.TheVariants as crash
+use Rattle.pg_assertion.specs.declared.expansion.Connective.{Connective}
+use Rattle.pg_assertion.specs.declared.expansion.Connective.TheVariants.{And, Or, Implies}
 use Rattle.pg_assertion.specs.Formula.{Plain, top, bottom, atom, neg, both, either, implies, nodes}
 
 -- ---- the locations that a crash formula names
@@ -109,6 +111,12 @@ IsAtomOf t (crash.Scalar r k) = (r < length t.scalars) × (k < t.domain)
 IsAtomOf t (crash.Location x v) = (x < length t.locations) × (v < t.domain)
 
 -- ---- steps of the code
+
+-- two formulas, connected
+abbrev pub connected : Connective → Plain ViewAtom → Plain ViewAtom → Plain ViewAtom
+connected And f g = both f g
+connected Or f g = either f g
+connected Implies f g = implies f g
 
 -- one more conjunct after those that are there
 abbrev pub joined : Option (Plain ViewAtom) → Plain ViewAtom → Plain ViewAtom

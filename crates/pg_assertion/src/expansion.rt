@@ -1,11 +1,11 @@
 //! The expansion of a crash formula into a formula about one state of the machine, after this project's own
 //! definition in `specs/Expansion.antt`.
 
-ghost use Rattle.std.specs.Prelude.{◌≡◌, ℕ, ◌<◌, ◌≤◌, ◌↔◌, IsErrOf, length, map, option_map, IfOk, OnOk};
+ghost use Rattle.std.specs.Prelude.{◌≡◌, ℕ, ◌<◌, ◌≤◌, ◌↔◌, IsErrOf, length, map, option_map, [], Some, None, IfOk, OnOk};
 ghost use Rattle.pg_program.specs.Limits.{IsDomainSize};
 ghost use Rattle.pg_assertion.specs.Limits.{most_nodes, most_named, most_expansion_nodes};
 ghost use Rattle.pg_assertion.specs.Formula.{plain, nodes, AllAtoms};
-ghost use Rattle.pg_assertion.specs.Expansion.{mentions, named, value_in, fill, constant, HasValueBelow, conjunction, can_persist, term, terms, joined, joined_all, or_true, expansion_over, expansion, expansion_size, ExpansionsHaveTheirSize, VectorsAreTheChoices, IsAtomOf};
+ghost use Rattle.pg_assertion.specs.Expansion.{mentions, named, value_in, fill, constant, connected, HasValueBelow, conjunction, can_persist, term, terms, joined, joined_all, or_true, expansion_over, expansion, expansion_size, ExpansionsHaveTheirSize, VectorsAreTheChoices, IsAtomOf};
 
 use crate::atom::{CrashAtom, ViewAtom};
 use crate::formula::Formula;
@@ -23,6 +23,14 @@ pub enum ExpandFault {
     TooLarge(u64),
     #[error("out of memory")]
     NoMemory,
+}
+
+/// What connects two formulas.
+#[derive(Clone, Copy)]
+enum Connective {
+    And,
+    Or,
+    Implies,
 }
 
 /// The expansion of a crash formula: a conjunction over all choices of values of the locations that it names, the
@@ -130,6 +138,7 @@ fn value_in(vector: &[(u8, u8)], x: u8) -> u8
 }
 
 /// The formula with the chosen values put in.
+#[cycle(filled)]
 fn filled(
     alloc: Global,
     f: &Formula<CrashAtom>,
@@ -149,21 +158,43 @@ fn filled(
             u32::from(value_in(vector, *x)) == *v,
         )),
         Formula::Not(f) => Formula::not(alloc, filled(alloc, f.get(), vector)?),
-        Formula::And(f, g) => Formula::and(
-            alloc,
-            filled(alloc, f.get(), vector)?,
-            filled(alloc, g.get(), vector)?,
-        ),
-        Formula::Or(f, g) => Formula::or(
-            alloc,
-            filled(alloc, f.get(), vector)?,
-            filled(alloc, g.get(), vector)?,
-        ),
-        Formula::Implies(f, g) => Formula::implies(
-            alloc,
-            filled(alloc, f.get(), vector)?,
-            filled(alloc, g.get(), vector)?,
-        ),
+        Formula::And(f, g) => both_filled(alloc, Connective::And, f.get(), g.get(), vector),
+        Formula::Or(f, g) => both_filled(alloc, Connective::Or, f.get(), g.get(), vector),
+        Formula::Implies(f, g) => both_filled(alloc, Connective::Implies, f.get(), g.get(), vector),
+    }
+}
+
+/// Two formulas with the chosen values put in, and connected.
+#[cycle(filled)]
+fn both_filled(
+    alloc: Global,
+    connective: Connective,
+    f: &Formula<CrashAtom>,
+    g: &Formula<CrashAtom>,
+    vector: &[(u8, u8)],
+) -> Result<Formula<ViewAtom>, AllocError>
+    requires left { AllAtoms (HasValueBelow 256) (plain f.now) }
+    requires right { AllAtoms (HasValueBelow 256) (plain g.now) }
+    ensures { IfOk result (λ h. plain h ≡ connected connective (fill vector.now (plain f.now)) (fill vector.now (plain g.now))) }
+{
+    let f = filled(alloc, f, vector)?;
+    let g = filled(alloc, g, vector)?;
+    connected(alloc, connective, f, g)
+}
+
+/// Two formulas, connected.
+fn connected(
+    alloc: Global,
+    connective: Connective,
+    f: Formula<ViewAtom>,
+    g: Formula<ViewAtom>,
+) -> Result<Formula<ViewAtom>, AllocError>
+    ensures { IfOk result (λ h. plain h ≡ connected connective (plain f) (plain g)) }
+{
+    match connective {
+        Connective::And => Formula::and(alloc, f, g),
+        Connective::Or => Formula::or(alloc, f, g),
+        Connective::Implies => Formula::implies(alloc, f, g),
     }
 }
 
@@ -179,17 +210,18 @@ fn constant(is_true: bool) -> Formula<ViewAtom>
 }
 
 /// One more conjunct after those that are there.
-fn joined(
+fn join(
     alloc: Global,
-    before: Option<Formula<ViewAtom>>,
+    whole: &mut Option<Formula<ViewAtom>>,
     next: Formula<ViewAtom>,
-) -> Result<Formula<ViewAtom>, AllocError>
-    ensures { IfOk result (λ g. plain g ≡ joined (option_map plain before) (plain next)) }
+) -> Result<(), AllocError>
+    ensures { OnOk result (option_map plain whole.new ≡ Some (joined (option_map plain whole.old) (plain next))) }
 {
-    match before {
-        Some(before) => Formula::and(alloc, before, next),
-        None => Ok(next),
-    }
+    *whole = Some(match whole.take() {
+        Some(before) => Formula::and(alloc, before, next)?,
+        None => next,
+    });
+    Ok(())
 }
 
 /// The conjunction that was joined, `true` where nothing was.
@@ -206,12 +238,12 @@ fn or_true(whole: Option<Formula<ViewAtom>>) -> Formula<ViewAtom>
 fn premise(alloc: Global, vector: &[(u8, u8)]) -> Result<Formula<ViewAtom>, AllocError>
     ensures { IfOk result (λ g. plain g ≡ conjunction (map can_persist vector.now)) }
 {
-    let mut before = None;
+    let mut whole = None;
     for (x, v) in vector {
         let next = Formula::Atom(ViewAtom::Persist { x: *x, v: *v });
-        before = Some(joined(alloc, before, next)?);
+        join(alloc, &mut whole, next)?;
     }
-    Ok(or_true(before))
+    Ok(or_true(whole))
 }
 
 /// The term of a choice of values.
@@ -233,22 +265,36 @@ fn join_terms(
     domain: u8,
     others: &[u8],
     chosen: &mut Vec<(u8, u8)>,
-    before: Option<Formula<ViewAtom>>,
-) -> Result<Option<Formula<ViewAtom>>, AllocError>
+    whole: &mut Option<Formula<ViewAtom>>,
+) -> Result<(), AllocError>
     requires { AllAtoms (HasValueBelow 256) (plain f.now) }
     ensures kept { OnOk result (chosen.new.items ≡ chosen.old.items) }
-    ensures all { IfOk result (λ g. option_map plain g ≡ joined_all (option_map plain before) (terms domain others.now chosen.old.items (plain f.now))) }
+    ensures all { OnOk result (option_map plain whole.new ≡ joined_all (option_map plain whole.old) (terms domain others.now chosen.old.items (plain f.now))) }
 {
     let [x, rest @ ..] = others else {
-        return Ok(Some(joined(alloc, before, term(alloc, f, chosen)?)?));
+        return join(alloc, whole, term(alloc, f, chosen)?);
     };
-    let mut whole = before;
     for v in 0..domain {
         chosen.push((*x, v))?;
-        whole = join_terms(alloc, f, domain, rest, chosen, whole)?;
+        join_terms(alloc, f, domain, rest, chosen, whole)?;
         chosen.pop();
     }
-    Ok(whole)
+    Ok(())
+}
+
+/// The terms of all choices of values of the named locations, joined.
+fn all_terms(
+    alloc: Global,
+    f: &Formula<CrashAtom>,
+    domain: u8,
+    named: &[u8],
+) -> Result<Formula<ViewAtom>, AllocError>
+    requires { AllAtoms (HasValueBelow 256) (plain f.now) }
+    ensures { IfOk result (λ g. plain g ≡ or_true (joined_all None (terms domain named.now [] (plain f.now)))) }
+{
+    let mut whole = None;
+    join_terms(alloc, f, domain, named, &mut Vec::new(alloc), &mut whole)?;
+    Ok(or_true(whole))
 }
 
 /// The expansion over the values below `domain`, with no limit on its size.
@@ -265,7 +311,5 @@ fn expanded(
     if named.is_empty() {
         return filled(alloc, f, &[]);
     }
-    let mut chosen = Vec::new(alloc);
-    let whole = join_terms(alloc, f, domain, &named, &mut chosen, None)?;
-    Ok(or_true(whole))
+    all_terms(alloc, f, domain, &named)
 }

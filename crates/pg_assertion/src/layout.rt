@@ -131,7 +131,6 @@ impl Layout {
     fn place_of(&self, a: &ViewAtom) -> u32
         requires { IsAtom self.now a.now }
         ensures place { result ≡ place_of self.now a.now }
-        ensures within { result < atoms self.now }
         ensures few { result < most_atoms }
     {
         match *a {

@@ -13,5 +13,5 @@ abbrev pub invariant-loop-v : goal.invariant-loop-v
 invariant-loop-v l =
     record {
       kept : l.chosen.items ≡ l.fn.chosen.items;
-      all : option_map plain l.whole ≡ joined_all (option_map plain l.fn.before) (terms_below l.domain l.v l.x l.rest l.fn.chosen.items (plain l.f));
+      all : option_map plain l.whole ≡ joined_all (option_map plain l.fn.whole) (terms_below l.domain l.v l.x l.rest l.fn.chosen.items (plain l.f));
     }

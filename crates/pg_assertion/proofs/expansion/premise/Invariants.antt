@@ -6,4 +6,4 @@ use Rattle.pg_assertion.proofs.expansion.premise.Given as goal
 
 -- the conjuncts so far
 abbrev pub invariant-loop-x : goal.invariant-loop-x
-invariant-loop-x l = option_map plain l.before ≡ joined_all None (map can_persist (take l.x-index l.vector))
+invariant-loop-x l = option_map plain l.whole ≡ joined_all None (map can_persist (take l.x-index l.vector))
