@@ -11,7 +11,7 @@ use Rattle.pg_program.specs.declared.name_table.NameKind.{NameKind}
 use Rattle.pg_program.specs.declared.name_table.NameKind.TheVariants as kind
 use Rattle.pg_program.specs.declared.name_table.ScalarKind.{ScalarKind}
 use Rattle.pg_program.specs.declared.name_table.ScalarKind.TheVariants as scalar
-use Rattle.pg_program.specs.NameTable.{NameTable, Location, kind_of, is_auxiliary, is_auxiliary_kind}
+use Rattle.pg_program.specs.NameTable.{NameTable, Location, kind_of, is_auxiliary, is_auxiliary_kind, is_foreign, is_foreign_kind}
 use Rattle.pg_program.specs.Block.{block}
 use Rattle.pg_program.specs.Graph.{statements}
 use Rattle.pg_program.specs.Fault.{Fault, plain_fault, first_of, unknown_owner, first_outside, in_thread, in_threads}
@@ -129,6 +129,14 @@ pub auxiliary_declared : (names : NameTable) (r : ℕ) → is_auxiliary names r 
 auxiliary_declared names r h = by names.scalars r h
   where
     by : (es : List (List ℕ × ScalarKind)) (i : ℕ) → is_auxiliary_kind (slice_get es i) ≡ true → i < length es
+    by [] i e = cc
+    by (x ∷ es) zero e = omega arith
+    by (x ∷ es) (suc i) e = let k = by es i e in omega arith
+
+pub foreign_declared : (names : NameTable) (t r : ℕ) → is_foreign names t r ≡ true → r < length names.scalars
+foreign_declared names t r h = by names.scalars r h
+  where
+    by : (es : List (List ℕ × ScalarKind)) (i : ℕ) → is_foreign_kind t (slice_get es i) ≡ true → i < length es
     by [] i e = cc
     by (x ∷ es) zero e = omega arith
     by (x ∷ es) (suc i) e = let k = by es i e in omega arith

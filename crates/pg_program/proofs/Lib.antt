@@ -8,3 +8,4 @@ pub mod GraphLemmas
 pub mod BlockLemmas
 pub mod NameLemmas
 pub mod FlowLaws
+pub mod FoundLemmas

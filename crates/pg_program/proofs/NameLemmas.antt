@@ -10,15 +10,13 @@ use Rattle.std.proofs.lemmas.List.{length-map}
 use Rattle.std.proofs.lemmas.Bool.{lt-ltb, le-ltb, cases_lt, cond-true, cond-false}
 use Rattle.std.proofs.lemmas.Slice.Eq.{bytes_eq-Decides}
 use Rattle.indexmap.specs.IndexMap.{insert_entry}
-use Rattle.std.proofs.Common.{Result, Ok, Err, OnOk, OnErr, nat_le, length-append}
-use Rattle.std.proofs.lemmas.Bool.{leb-false}
-use Rattle.pg_program.specs.declared.name_table.NameKind.TheVariants as kind
+use Rattle.std.proofs.Common.{Result, Ok, Err, OnOk, OnErr, length-append}
 use Rattle.pg_program.specs.declared.name_table.NameRef.{NameRef}
 use Rattle.pg_program.specs.declared.name_table.NameRef.TheVariants as place
 use Rattle.pg_program.specs.declared.name_table.ScalarKind.{ScalarKind}
 use Rattle.pg_program.specs.declared.name_table.Placed.{Placed}
 use Rattle.pg_program.specs.Limits.{most_locations, most_locations_1, most_locations_2, most_scalars}
-use Rattle.pg_program.specs.NameTable.{NameTable, Location, IsNameTable, AreGrouped, by_bytes, location_of, lines, line_count, location_names, scalar_names, place_in, find, found, is_full, with_location, MayJoin}
+use Rattle.pg_program.specs.NameTable.{NameTable, Location, IsNameTable, AreGrouped, by_bytes, location_of, lines, line_count, location_names, scalar_names, place_in, find, found, with_location}
 
 -- one step of `position`, with the recursion's parts as numbers
 first_step : (b : Bool) (n m : ℕ)

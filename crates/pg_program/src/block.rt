@@ -31,12 +31,12 @@ pub fn opened(stmts: &[Stmt]) -> Option<Node<'_>>
     })
 }
 
-/// The first statement and the others, if there is one.
-fn split(stmts: &[Stmt]) -> Option<(&Stmt, &[Stmt])>
-    ensures { MatchOption result (stmts.now ≡ []) (λ p. stmts.now ≡ p.0.now ∷ p.1.now) }
+/// The first item and the others, if there is one.
+pub fn split<T>(items: &[T]) -> Option<(&T, &[T])>
+    ensures { MatchOption result (items.now ≡ []) (λ p. items.now ≡ p.0.now ∷ p.1.now) }
 {
-    match stmts {
-        [stmt, rest @ ..] => Some((stmt, rest)),
+    match items {
+        [item, rest @ ..] => Some((item, rest)),
         [] => None,
     }
 }

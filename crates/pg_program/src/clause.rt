@@ -16,8 +16,11 @@ use crate::block::{count, nth};
 use crate::fault::ProgramFault;
 use crate::name_table::{NameKind, Names};
 use crate::point::PointId;
+use crate::sought::Sought;
 use crate::syntax::Stmt;
-use crate::words::{numbers_of, outside, reads_many, scalars_of, stands_in, targets};
+use crate::words::{
+    number_outside_in, reads_many, sought_in_stmt, sought_outside, stands_in, targets,
+};
 use std::alloc::{AllocError, Global};
 
 /// How many values a domain has at least.
@@ -158,28 +161,25 @@ fn check_stmt(
         Clause::OwnRegisters => own_registers(alloc, names, at, stmt),
         Clause::NoAuxiliaries => no_auxiliaries(alloc, names, stmt),
         Clause::DistinctTargets => distinct_targets(alloc, names, stmt),
-        Clause::NumbersInside => numbers_inside(alloc, names, stmt),
+        Clause::NumbersInside => numbers_inside(names, stmt),
         Clause::FewNames => few_names(alloc, at, stmt),
     }
 }
 
 fn own_registers(alloc: Global, names: &Names, at: PointId, stmt: &Stmt) -> Result<(), ProgramFault>
-    requires { IsStmt names.now stmt.now }
     ensures { Finds (own_registers names.now at stmt.now) result }
 {
-    let scalars = scalars_of(alloc, stmt)?;
-    match first_foreign(names, at.thread, &scalars) {
+    let sought = Sought::Foreign { thread: at.thread };
+    match sought_in_stmt(stmt, names, sought) {
         Some(r) => Err(ProgramFault::ForeignRegister(name_of(alloc, names, r)?)),
         None => Ok(()),
     }
 }
 
 fn no_auxiliaries(alloc: Global, names: &Names, stmt: &Stmt) -> Result<(), ProgramFault>
-    requires { IsStmt names.now stmt.now }
     ensures { (at : PointId) → Finds (no_auxiliaries names.now at stmt.now) result }
 {
-    let scalars = outside(alloc, stmt)?;
-    match first_auxiliary(names, &scalars) {
+    match sought_outside(stmt, names, Sought::Auxiliary) {
         Some(r) => Err(ProgramFault::AuxInProgram(name_of(alloc, names, r)?)),
         None => Ok(()),
     }
@@ -196,11 +196,10 @@ fn distinct_targets(alloc: Global, names: &Names, stmt: &Stmt) -> Result<(), Pro
     }
 }
 
-fn numbers_inside(alloc: Global, names: &Names, stmt: &Stmt) -> Result<(), ProgramFault>
+fn numbers_inside(names: &Names, stmt: &Stmt) -> Result<(), ProgramFault>
     ensures { (at : PointId) → Finds (numbers_inside names.now at stmt.now) result }
 {
-    let numbers = numbers_of(alloc, stmt)?;
-    match first_outside(names.domain(), &numbers) {
+    match number_outside_in(stmt, names.domain()) {
         Some(v) => Err(ProgramFault::ValueOutOfDomain(v)),
         None => Ok(()),
     }
@@ -215,36 +214,6 @@ fn few_names(alloc: Global, at: PointId, stmt: &Stmt) -> Result<(), ProgramFault
     Ok(())
 }
 
-/// The first of some scalars that is a register of another thread.
-fn first_foreign(names: &Names, thread: u8, scalars: &[u8]) -> Option<u8>
-    requires { All (λ r. r < length names.now.scalars) scalars.now }
-    ensures first { result ≡ find (is_foreign names.now thread) scalars.now }
-    ensures declared { IfSome result (λ r. r < length names.now.scalars) }
-{
-    for r in scalars {
-        if let NameKind::Register { owner } = names.kind(*r) {
-            if owner != u32::from(thread) {
-                return Some(*r);
-            }
-        }
-    }
-    None
-}
-
-/// The first of some scalars that is an auxiliary.
-fn first_auxiliary(names: &Names, scalars: &[u8]) -> Option<u8>
-    requires { All (λ r. r < length names.now.scalars) scalars.now }
-    ensures first { result ≡ find (is_auxiliary names.now) scalars.now }
-    ensures declared { IfSome result (λ r. r < length names.now.scalars) }
-{
-    for r in scalars {
-        if let NameKind::Auxiliary = names.kind(*r) {
-            return Some(*r);
-        }
-    }
-    None
-}
-
 /// The first scalar that stands again among those before it.
 fn first_repeated(scalars: &[u8]) -> Option<u8>
     ensures { result ≡ repeated [] scalars.now }
@@ -252,18 +221,6 @@ fn first_repeated(scalars: &[u8]) -> Option<u8>
     for (i, r) in scalars.iter().enumerate() {
         if stands_in(*r, &scalars[..i]) {
             return Some(*r);
-        }
-    }
-    None
-}
-
-/// The first number that is not below the size of the domain.
-fn first_outside(domain: u32, numbers: &[u32]) -> Option<u32>
-    ensures { result ≡ first_outside domain numbers.now }
-{
-    for v in numbers {
-        if *v >= domain {
-            return Some(*v);
         }
     }
     None

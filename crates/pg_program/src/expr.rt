@@ -2,8 +2,13 @@
 
 ghost use Rattle.std.specs.Prelude.{◌≡◌, ◌++◌, ◌*◌, ◌<◌, ◌≤◌, length, All, OnOk};
 ghost use Rattle.pg_program.specs.Limits.{IsDomainSize, largest_domain_2};
+ghost use Rattle.std.specs.List.{find};
 ghost use Rattle.pg_program.specs.Expr.{reads, numbers, value, test_holds};
+ghost use Rattle.pg_program.specs.Fault.{first_outside};
+ghost use Rattle.pg_program.specs.Clause.{is_sought};
 
+use crate::name_table::Names;
+use crate::sought::{Sought, if_sought};
 use crate::syntax::{Cond, Expr};
 use std::alloc::AllocError;
 
@@ -74,19 +79,28 @@ pub fn append_reads(expr: &Expr, into: &mut Vec<u8>) -> Result<(), AllocError>
     }
 }
 
-/// Appends the numbers of an expression, in the order of the text.
-pub fn append_numbers(expr: &Expr, into: &mut Vec<u32>) -> Result<(), AllocError>
-    ensures { OnOk result (into.new.items ≡ into.old.items ++ numbers expr.now) }
+/// The first scalar of an expression that is sought.
+pub fn sought_in(expr: &Expr, names: &Names, sought: Sought) -> Option<u8>
+    ensures { result ≡ find (is_sought sought names.now) (reads expr.now) }
 {
     match expr {
-        Expr::Value(v) => {
-            into.push(*v)?;
-            Ok(())
-        }
-        Expr::Scalar(_) => Ok(()),
+        Expr::Value(_) => None,
+        Expr::Scalar(r) => if_sought(*r, names, sought),
         Expr::Add(a, b) | Expr::Sub(a, b) | Expr::Mul(a, b) => {
-            append_numbers(a.get(), into)?;
-            append_numbers(b.get(), into)
+            sought_in(a.get(), names, sought).or(sought_in(b.get(), names, sought))
+        }
+    }
+}
+
+/// The first number of an expression that is not below the size of the domain.
+pub fn number_outside(expr: &Expr, domain: u32) -> Option<u32>
+    ensures { result ≡ first_outside domain (numbers expr.now) }
+{
+    match expr {
+        Expr::Value(v) => (*v >= domain).then_some(*v),
+        Expr::Scalar(_) => None,
+        Expr::Add(a, b) | Expr::Sub(a, b) | Expr::Mul(a, b) => {
+            number_outside(a.get(), domain).or(number_outside(b.get(), domain))
         }
     }
 }

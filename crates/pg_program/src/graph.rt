@@ -6,6 +6,9 @@ ghost use Rattle.std.specs.Option.{option_copied};
 ghost use Rattle.pg_program.specs.Limits.{most_threads, most_points};
 ghost use Rattle.pg_program.specs.Straight.{store_of};
 ghost use Rattle.pg_program.specs.Block.{block};
+ghost use Rattle.pg_program.specs.Fault.{first_fault};
+ghost use Rattle.pg_program.specs.Outcome.{Finds};
+ghost use Rattle.pg_program.specs.Program.{AreThreads};
 ghost use Rattle.pg_program.specs.Graph.{size, into, exit_of, steps, own_steps, is_test, is_loop, thread_steps, graphs};
 
 use crate::block::{Node, count, nth, opened};
@@ -14,12 +17,11 @@ use crate::fault::ProgramFault;
 use crate::name_table::Names;
 use crate::point::{Branch, PointId, Step};
 use crate::syntax::{Act, Expr, Stmt};
-use smallvec::SmallVec;
 use std::alloc::{AllocError, Global};
 use std::marker::Model;
 
 /// The steps from a point, at most two.
-type Steps = SmallVec<Step, 2>;
+type Steps = Vec<Step>;
 
 /// A well-formed program.
 #[derive(Drop)]
@@ -58,13 +60,14 @@ impl Program {
         requires { AreThreads names (map (λ t. t.items) threads.items) }
         ensures { Builds names (map (λ t. t.items) threads.items) result }
     {
-        check(alloc, &names, &threads)?;
-        let graph = linked(alloc, &threads)?;
-        Ok(Program {
-            names,
-            threads,
-            graph,
-        })
+        match checked_graph(alloc, &names, &threads) {
+            Ok(graph) => Ok(Program {
+                names,
+                threads,
+                graph,
+            }),
+            Err(fault) => Err(fault),
+        }
     }
 
     /// The declared names.
@@ -150,6 +153,20 @@ fn steps_of(graph: &[Vec<Steps>], thread: usize, place: usize) -> &[Step]
         Some(steps) => steps.as_slice(),
         None => &[],
     }
+}
+
+/// The steps from each point of each thread, where names and threads have no fault, and else their first fault.
+fn checked_graph(
+    alloc: Global,
+    names: &Names,
+    threads: &[Vec<Stmt>],
+) -> Result<Vec<Vec<Steps>>, ProgramFault>
+    requires { AreThreads names.now (map (λ t. t.items) threads.now) }
+    ensures fault { Finds (first_fault names.now (map (λ t. t.items) threads.now)) result }
+    ensures graph { IfOk result (λ g. map (λ t. map (λ s. s.items) t.items) g.items ≡ graphs 1 (map (λ t. t.items) threads.now)) }
+{
+    check(alloc, names, threads)?;
+    Ok(linked(alloc, threads)?)
 }
 
 /// The steps from each point of each thread.
@@ -278,7 +295,7 @@ fn own_steps(
 ) -> Result<Steps, AllocError>
     ensures { IfOk result (λ s. s.items ≡ own_steps (is_test stmt.now) at.thread at.point yes no next) }
 {
-    let mut steps = SmallVec::new(alloc);
+    let mut steps = Vec::new(alloc);
     if is_test(stmt) {
         steps.push(step(at, Branch::Yes, yes))?;
         steps.push(step(at, Branch::No, no))?;

@@ -15,6 +15,7 @@ mod graph;
 pub mod laws;
 mod name_table;
 mod point;
+mod sought;
 mod syntax;
 mod words;
 

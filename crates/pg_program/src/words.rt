@@ -1,76 +1,66 @@
-//! What stands in a statement, as lists in the order of the text.
+//! What stands in a statement, in the order of the text.
 
 ghost use Rattle.std.specs.Prelude.{◌≡◌, ◌++◌, length, map, OnOk, IfOk};
-ghost use Rattle.std.specs.List.{list_any};
+ghost use Rattle.std.specs.List.{find, list_any};
 ghost use Rattle.pg_program.specs.declared.syntax.Act.{out-Act};
-ghost use Rattle.pg_program.specs.Expr.{reads};
+ghost use Rattle.pg_program.specs.Expr.{reads, numbers};
+ghost use Rattle.pg_program.specs.Fault.{first_outside};
+ghost use Rattle.pg_program.specs.Clause.{is_sought};
 ghost use Rattle.pg_program.specs.Words.{outside, scalars_of, targets, numbers_of, numbers_in, bracket_scalars, bracket_numbers, groups, groups_in, different, is_in, is_wide};
 
-use crate::expr::{append_numbers, append_reads};
+use crate::block::split;
+use crate::expr::{append_reads, number_outside, sought_in};
+use crate::name_table::Names;
+use crate::sought::{Sought, if_sought};
 use crate::syntax::{Act, AuxAssign, Cond, Expr, Stmt};
 use std::alloc::{AllocError, Global};
 
 /// How many different names an expression may read, or both sides of a test together.
 const MAX_NAMES: usize = 4;
 
-/// The scalars of a statement outside its bracket.
-pub fn outside(alloc: Global, stmt: &Stmt) -> Result<Vec<u8>, AllocError>
-    ensures { IfOk result (λ v. v.items ≡ outside stmt.now) }
+/// The first scalar of a statement that is sought. Those of its bracket stand last.
+pub fn sought_in_stmt(stmt: &Stmt, names: &Names, sought: Sought) -> Option<u8>
+    ensures { result ≡ find (is_sought sought names.now) (scalars_of stmt.now) }
 {
-    let mut scalars = Vec::new(alloc);
-    append_outside(stmt, &mut scalars)?;
-    Ok(scalars)
+    sought_outside(stmt, names, sought).or(sought_in_bracket(stmt.aux.as_slice(), names, sought))
 }
 
-/// The scalars of a statement, those of its bracket last.
-pub fn scalars_of(alloc: Global, stmt: &Stmt) -> Result<Vec<u8>, AllocError>
-    ensures { IfOk result (λ v. v.items ≡ scalars_of stmt.now) }
-{
-    let mut scalars = Vec::new(alloc);
-    append_outside(stmt, &mut scalars)?;
-    append_bracket(stmt.aux.as_slice(), &mut scalars)?;
-    Ok(scalars)
-}
-
-fn append_outside(stmt: &Stmt, into: &mut Vec<u8>) -> Result<(), AllocError>
-    ensures { OnOk result (into.new.items ≡ into.old.items ++ outside stmt.now) }
+/// The first scalar outside a statement's bracket that is sought.
+pub fn sought_outside(stmt: &Stmt, names: &Names, sought: Sought) -> Option<u8>
+    ensures { result ≡ find (is_sought sought names.now) (outside stmt.now) }
 {
     match &stmt.act {
         Act::Assign { target, expr } => {
-            into.push(*target)?;
-            append_reads(expr, into)
+            if_sought(*target, names, sought).or(sought_in(expr, names, sought))
         }
-        Act::Store { expr, .. } => append_reads(expr, into),
-        Act::Load { target, .. } => {
-            into.push(*target)?;
-            Ok(())
-        }
+        Act::Store { expr, .. } => sought_in(expr, names, sought),
+        Act::Load { target, .. } => if_sought(*target, names, sought),
         Act::Cas {
             target,
             expected,
             desired,
             ..
-        } => {
-            into.push(*target)?;
-            append_reads(expected, into)?;
-            append_reads(desired, into)
-        }
+        } => if_sought(*target, names, sought).or(sought_in_both(expected, desired, names, sought)),
         Act::If { test, .. } | Act::While { test, .. } => {
-            append_reads(&test.left, into)?;
-            append_reads(&test.right, into)
+            sought_in_both(&test.left, &test.right, names, sought)
         }
-        Act::Mfence | Act::Sfence | Act::Flush { .. } | Act::Flushopt { .. } => Ok(()),
+        Act::Mfence | Act::Sfence | Act::Flush { .. } | Act::Flushopt { .. } => None,
     }
 }
 
-fn append_bracket(aux: &[AuxAssign], into: &mut Vec<u8>) -> Result<(), AllocError>
-    ensures { OnOk result (into.new.items ≡ into.old.items ++ bracket_scalars aux.now) }
+fn sought_in_both(a: &Expr, b: &Expr, names: &Names, sought: Sought) -> Option<u8>
+    ensures { result ≡ find (is_sought sought names.now) (reads a.now ++ reads b.now) }
 {
-    for assign in aux {
-        into.push(assign.target)?;
-        append_reads(&assign.expr, into)?;
-    }
-    Ok(())
+    sought_in(a, names, sought).or(sought_in(b, names, sought))
+}
+
+fn sought_in_bracket(aux: &[AuxAssign], names: &Names, sought: Sought) -> Option<u8>
+    ensures { result ≡ find (is_sought sought names.now) (bracket_scalars aux.now) }
+{
+    let (assign, rest) = split(aux)?;
+    if_sought(assign.target, names, sought)
+        .or(sought_in(&assign.expr, names, sought))
+        .or(sought_in_bracket(rest, names, sought))
 }
 
 /// The targets of a statement's bracket.
@@ -80,45 +70,42 @@ pub fn targets(alloc: Global, stmt: &Stmt) -> Result<Vec<u8>, AllocError>
     stmt.aux.as_slice().iter().map(|a| a.target).collect(alloc)
 }
 
-/// The numbers of a statement, those of its bracket last.
-pub fn numbers_of(alloc: Global, stmt: &Stmt) -> Result<Vec<u32>, AllocError>
-    ensures { IfOk result (λ v. v.items ≡ numbers_of stmt.now) }
+/// The first number of a statement that is not below the size of the domain. Those of its bracket stand last.
+pub fn number_outside_in(stmt: &Stmt, domain: u32) -> Option<u32>
+    ensures { result ≡ first_outside domain (numbers_of stmt.now) }
 {
-    let mut numbers = Vec::new(alloc);
-    append_act_numbers(&stmt.act, &mut numbers)?;
-    append_bracket_numbers(stmt.aux.as_slice(), &mut numbers)?;
-    Ok(numbers)
+    number_of_act(&stmt.act, domain).or(number_of_bracket(stmt.aux.as_slice(), domain))
 }
 
-fn append_act_numbers(act: &Act, into: &mut Vec<u32>) -> Result<(), AllocError>
-    ensures { OnOk result (into.new.items ≡ into.old.items ++ numbers_in (out-Act act.now)) }
+fn number_of_act(act: &Act, domain: u32) -> Option<u32>
+    ensures { result ≡ first_outside domain (numbers_in (out-Act act.now)) }
 {
     match act {
-        Act::Assign { expr, .. } | Act::Store { expr, .. } => append_numbers(expr, into),
+        Act::Assign { expr, .. } | Act::Store { expr, .. } => number_outside(expr, domain),
         Act::Cas {
             expected,
             desired,
             ..
-        } => {
-            append_numbers(expected, into)?;
-            append_numbers(desired, into)
-        }
+        } => number_of_both(expected, desired, domain),
         Act::If { test, .. } | Act::While { test, .. } => {
-            append_numbers(&test.left, into)?;
-            append_numbers(&test.right, into)
+            number_of_both(&test.left, &test.right, domain)
         }
         Act::Load { .. } | Act::Mfence | Act::Sfence | Act::Flush { .. } | Act::Flushopt { .. } =>
-            Ok(()),
+            None,
     }
 }
 
-fn append_bracket_numbers(aux: &[AuxAssign], into: &mut Vec<u32>) -> Result<(), AllocError>
-    ensures { OnOk result (into.new.items ≡ into.old.items ++ bracket_numbers aux.now) }
+fn number_of_both(a: &Expr, b: &Expr, domain: u32) -> Option<u32>
+    ensures { result ≡ first_outside domain (numbers a.now ++ numbers b.now) }
 {
-    for assign in aux {
-        append_numbers(&assign.expr, into)?;
-    }
-    Ok(())
+    number_outside(a, domain).or(number_outside(b, domain))
+}
+
+fn number_of_bracket(aux: &[AuxAssign], domain: u32) -> Option<u32>
+    ensures { result ≡ first_outside domain (bracket_numbers aux.now) }
+{
+    let (assign, rest) = split(aux)?;
+    number_outside(&assign.expr, domain).or(number_of_bracket(rest, domain))
 }
 
 /// Whether some expression, or both sides of a test together, read more than four names.

@@ -1,7 +1,7 @@
 use Rattle.std.proofs.Common.{◌≡◌, sym, subst, ℕ, None, Option, Some, List, length, map, option_map, IfSome, Vec, Global}
 use Rattle.pg_program.specs.declared.syntax.Stmt.{Stmt}
 use Rattle.pg_program.specs.declared.name_table.ScalarKind.{ScalarKind}
-use Rattle.pg_program.specs.Fault.{Fault, plain_fault, domain_fault, unknown_owner, unknown_thread}
+use Rattle.pg_program.specs.Fault.{Fault, plain_fault, unknown_owner, unknown_thread}
 use Rattle.pg_program.proofs.ClauseLemmas.{passes_on, refuses, length_viewed}
 use Rattle.pg_program.proofs.clause.check.Goals as goal
 

@@ -1,5 +1,5 @@
-use Rattle.std.proofs.Common.{◌∙◌, ◌≡◌, ap, ap₂, subst, sym, Option, Some, None, List, ℕ, map}
-use Rattle.pg_program.specs.NameTable.{NameTable, find, found, place_in, by_bytes, scalar_names}
+use Rattle.std.proofs.Common.{◌∙◌, ap, ap₂, sym, Option, ℕ, map}
+use Rattle.pg_program.specs.NameTable.{find, found, place_in, by_bytes}
 use Rattle.pg_program.proofs.NameLemmas.{names_of-located}
 use Rattle.pg_program.proofs.name_table.Names.find.Goals as goal
 

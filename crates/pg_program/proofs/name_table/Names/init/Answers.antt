@@ -1,7 +1,5 @@
-use Rattle.std.proofs.Common.{◌∙◌, ◌≡◌, ap, subst, sym, Option, Some, List, ℕ, map, option_map, slice_get}
-use Rattle.std.proofs.lemmas.Option.{slice_get-map}
-use Rattle.pg_program.specs.declared.name_table.Placed.{Placed}
-use Rattle.pg_program.specs.NameTable.{NameTable, Location, by_bytes, location_of}
+use Rattle.std.proofs.Common.{◌∙◌, ap, sym, option_map, slice_get}
+use Rattle.pg_program.specs.NameTable.{NameTable, Location}
 use Rattle.pg_program.proofs.NameLemmas.{located}
 use Rattle.pg_program.proofs.name_table.Names.init.Goals as goal
 

@@ -1,7 +1,6 @@
-use Rattle.std.proofs.Common.{◌∙◌, ◌≡◌, ap, subst, sym, Option, Some, List, ℕ, map, option_map, slice_get}
+use Rattle.std.proofs.Common.{◌∙◌, ap, sym, option_map, slice_get}
 use Rattle.std.proofs.lemmas.Option.{slice_get-map}
-use Rattle.pg_program.specs.declared.name_table.Placed.{Placed}
-use Rattle.pg_program.specs.NameTable.{NameTable, Location, by_bytes, location_of, lines}
+use Rattle.pg_program.specs.NameTable.{NameTable, Location, lines}
 use Rattle.pg_program.proofs.NameLemmas.{located, line_within}
 use Rattle.pg_program.proofs.name_table.Names.line.Goals as goal
 

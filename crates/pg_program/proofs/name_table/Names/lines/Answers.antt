@@ -1,4 +1,4 @@
-use Rattle.std.proofs.Common.{◌≡◌, ap, subst, sym, ◌∙◌, arith}
+use Rattle.std.proofs.Common.{ap, subst, ◌∙◌, arith}
 use Rattle.pg_program.specs.NameTable.{NameTable, lines, line_count, IsNameTable}
 use Rattle.pg_program.proofs.NameLemmas.{count_few}
 use Rattle.pg_program.proofs.name_table.Names.lines.Goals as goal

@@ -1,4 +1,4 @@
-use Rattle.std.proofs.Common.{◌∙◌, ◌≡◌, ap, sym, Option, Some, List, ℕ, option_map, slice_get}
+use Rattle.std.proofs.Common.{◌∙◌, ap, sym, Some, option_map, slice_get}
 use Rattle.pg_program.specs.NameTable.{NameTable, Location}
 use Rattle.pg_program.proofs.NameLemmas.{located}
 use Rattle.pg_program.proofs.name_table.Names.location_name.Goals as goal

@@ -1,7 +1,6 @@
 use Rattle.std.proofs.Common.{◌∙◌, ◌≡◌, ◌+◌, ◌≤◌, ◌<◌, ap, subst, sym, None, List, ℕ, map, max, arith, length, refl, [], ◌∷◌, ◌++◌}
-use Rattle.pg_program.specs.declared.name_table.Placed.{Placed}
 use Rattle.pg_program.specs.Limits.{most_locations}
-use Rattle.pg_program.specs.NameTable.{NameTable, Location, find, place_in, location_names, scalar_names, lines, line_count, location_of, IsNameTable, by_bytes}
+use Rattle.pg_program.specs.NameTable.{NameTable, Location, find, place_in, lines, line_count, location_of, IsNameTable, by_bytes}
 use Rattle.pg_program.proofs.NameLemmas.{IsNameTable-location, located-more, names_of-located, absent_location, count_more, count_few, locations_few, lines-more}
 use Rattle.pg_program.proofs.name_table.Names.put_location.Goals as goal
 

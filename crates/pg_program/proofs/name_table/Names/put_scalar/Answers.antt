@@ -1,4 +1,4 @@
-use Rattle.std.proofs.Common.{◌∙◌, ◌≡◌, ◌<◌, ap, subst, sym, None, List, ℕ, map, length}
+use Rattle.std.proofs.Common.{◌≡◌, ◌<◌, subst, sym, None, List, ℕ, map, length}
 use Rattle.pg_program.specs.declared.name_table.ScalarKind.{ScalarKind}
 use Rattle.pg_program.specs.Limits.{most_scalars}
 use Rattle.pg_program.specs.NameTable.{NameTable, find, location_of, IsNameTable, by_bytes}
