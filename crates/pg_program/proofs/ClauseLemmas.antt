@@ -5,6 +5,7 @@ use Rattle.std.specs.Result.{IsErrAnd}
 use Rattle.std.proofs.lemmas.Bool.{cond-true, cond-false, le-leb, lt-leb}
 use Rattle.std.proofs.lemmas.List.Elements.{All-head, All-tail}
 use Rattle.pg_program.specs.declared.syntax.Stmt.{Stmt}
+use Rattle.pg_program.specs.declared.syntax.AuxAssign.{AuxAssign}
 use Rattle.pg_program.specs.declared.point.PointId.{PointId}
 use Rattle.pg_program.specs.declared.fault.ProgramFault.{ProgramFault}
 use Rattle.pg_program.specs.declared.name_table.NameKind.{NameKind}
@@ -124,6 +125,33 @@ repeated-All P before (q ∷ rs) r h all = by (λ e. repeated-All P (before ++ q
     by : (repeated (before ++ q ∷ []) rs ≡ Some r → P r) → (b : Bool) → cond b (Some q) (repeated (before ++ q ∷ []) rs) ≡ Some r → P r
     by rest true e = let same : q ≡ r = cc in subst P same (All-head P q rs all)
     by rest false e = rest e
+
+-- the targets up to a place, with the one there
+taken : (aux : List AuxAssign) (i : ℕ) (a : AuxAssign) → slice_get aux i ≡ Some a
+    → map (λ e. e.target) (take i aux) ++ a.target ∷ [] ≡ map (λ e. e.target) (take (i + 1) aux)
+taken [] i a h = cc
+taken (e ∷ aux) zero a h = let same : e ≡ a = cc in ap (λ (x : AuxAssign). x.target ∷ []) (sym same)
+taken (e ∷ aux) (suc i) a h =
+    let q : suc (i + 1) ≡ suc i + 1 = omega arith in
+    ap (λ l. e.target ∷ l) (taken aux i a h) ∙ ap (λ (n : ℕ). map (λ x. x.target) (take n (e ∷ aux))) q
+
+repeated-drop : (aux : List AuxAssign) (i : ℕ) (a : AuxAssign) → slice_get aux i ≡ Some a
+    → repeated (map (λ e. e.target) (take i aux)) (map (λ e. e.target) (drop i aux))
+    ≡ cond (is_in a.target (map (λ e. e.target) (take i aux))) (Some a.target) (repeated (map (λ e. e.target) (take (i + 1) aux)) (map (λ e. e.target) (drop (i + 1) aux)))
+repeated-drop aux i a h =
+    let before = map (λ (e : AuxAssign). e.target) (take i aux) in
+    let after = map (λ (e : AuxAssign). e.target) (drop (i + 1) aux) in
+    ap (λ (l : List AuxAssign). repeated before (map (λ e. e.target) l)) (dropped aux i a h)
+    ∙ ap (λ (k : List ℕ). cond (is_in a.target before) (Some a.target) (repeated k after)) (taken aux i a h)
+
+pub repeated_here : (aux : List AuxAssign) (i : ℕ) (a : AuxAssign) → slice_get aux i ≡ Some a → true ≡ is_in a.target (map (λ e. e.target) (take i aux))
+    → Some a.target ≡ repeated (map (λ e. e.target) (take i aux)) (map (λ e. e.target) (drop i aux))
+repeated_here aux i a h there = sym (repeated-drop aux i a h ∙ cond-true _ _ _ (sym there))
+
+pub repeated_later : (aux : List AuxAssign) (i : ℕ) (a : AuxAssign) → slice_get aux i ≡ Some a → false ≡ is_in a.target (map (λ e. e.target) (take i aux))
+    → repeated (map (λ e. e.target) (take i aux)) (map (λ e. e.target) (drop i aux))
+    ≡ repeated (map (λ e. e.target) (take (i + 1) aux)) (map (λ e. e.target) (drop (i + 1) aux))
+repeated_later aux i a h there = repeated-drop aux i a h ∙ cond-false _ _ _ (sym there)
 
 pub auxiliary_declared : (names : NameTable) (r : ℕ) → is_auxiliary names r ≡ true → r < length names.scalars
 auxiliary_declared names r h = by names.scalars r h

@@ -19,7 +19,7 @@ use crate::point::PointId;
 use crate::sought::Sought;
 use crate::syntax::Stmt;
 use crate::words::{
-    number_outside_in, reads_many, sought_in_stmt, sought_outside, stands_in, targets,
+    number_outside_in, reads_many, repeated_target, sought_in_stmt, sought_outside,
 };
 use std::alloc::{AllocError, Global};
 
@@ -189,8 +189,7 @@ fn distinct_targets(alloc: Global, names: &Names, stmt: &Stmt) -> Result<(), Pro
     requires { IsStmt names.now stmt.now }
     ensures { (at : PointId) → Finds (distinct_targets names.now at stmt.now) result }
 {
-    let targets = targets(alloc, stmt)?;
-    match first_repeated(&targets) {
+    match repeated_target(stmt.aux.as_slice()) {
         Some(r) => Err(ProgramFault::AuxTwice(name_of(alloc, names, r)?)),
         None => Ok(()),
     }
@@ -212,18 +211,6 @@ fn few_names(alloc: Global, at: PointId, stmt: &Stmt) -> Result<(), ProgramFault
         return Err(ProgramFault::ExpressionNames(at));
     }
     Ok(())
-}
-
-/// The first scalar that stands again among those before it.
-fn first_repeated(scalars: &[u8]) -> Option<u8>
-    ensures { result ≡ repeated [] scalars.now }
-{
-    for (i, r) in scalars.iter().enumerate() {
-        if stands_in(*r, &scalars[..i]) {
-            return Some(*r);
-        }
-    }
-    None
 }
 
 /// The name of a scalar.

@@ -1,12 +1,12 @@
 //! What stands in a statement, in the order of the text.
 
-ghost use Rattle.std.specs.Prelude.{◌≡◌, ◌++◌, length, map, OnOk, IfOk};
+ghost use Rattle.std.specs.Prelude.{[], ◌≡◌, ◌++◌, length, map, OnOk, IfOk};
 ghost use Rattle.std.specs.List.{find, list_any};
 ghost use Rattle.pg_program.specs.declared.syntax.Act.{out-Act};
 ghost use Rattle.pg_program.specs.Expr.{reads, numbers};
 ghost use Rattle.pg_program.specs.Fault.{first_outside};
 ghost use Rattle.pg_program.specs.Clause.{is_sought};
-ghost use Rattle.pg_program.specs.Words.{outside, scalars_of, targets, numbers_of, numbers_in, bracket_scalars, bracket_numbers, groups, groups_in, different, is_in, is_wide};
+ghost use Rattle.pg_program.specs.Words.{outside, scalars_of, numbers_of, numbers_in, repeated, bracket_scalars, bracket_numbers, groups, groups_in, different, is_in, is_wide};
 
 use crate::block::split;
 use crate::expr::{append_reads, number_outside, sought_in};
@@ -63,11 +63,25 @@ fn sought_in_bracket(aux: &[AuxAssign], names: &Names, sought: Sought) -> Option
         .or(sought_in_bracket(rest, names, sought))
 }
 
-/// The targets of a statement's bracket.
-pub fn targets(alloc: Global, stmt: &Stmt) -> Result<Vec<u8>, AllocError>
-    ensures { IfOk result (λ v. v.items ≡ targets stmt.now) }
+/// The first target of a bracket that stands again among those before it.
+pub fn repeated_target(aux: &[AuxAssign]) -> Option<u8>
+    ensures { result ≡ repeated [] (map (λ a. a.target) aux.now) }
 {
-    stmt.aux.as_slice().iter().map(|a| a.target).collect(alloc)
+    for (i, assign) in aux.iter().enumerate() {
+        if is_target(assign.target, &aux[..i]) {
+            return Some(assign.target);
+        }
+    }
+    None
+}
+
+fn is_target(r: u8, aux: &[AuxAssign]) -> bool
+    ensures { result ≡ is_in r (map (λ a. a.target) aux.now) }
+{
+    match split(aux) {
+        Some((assign, rest)) => assign.target == r || is_target(r, rest),
+        None => false,
+    }
 }
 
 /// The first number of a statement that is not below the size of the domain. Those of its bracket stand last.
@@ -170,7 +184,7 @@ fn is_wide_test(alloc: Global, test: &Cond) -> Result<bool, AllocError>
 }
 
 /// Whether a number stands among others.
-pub fn stands_in(n: u8, numbers: &[u8]) -> bool
+fn stands_in(n: u8, numbers: &[u8]) -> bool
     ensures { result ≡ is_in n numbers.now }
 {
     numbers.iter().any(|q| *q == n)
