@@ -8,7 +8,7 @@ use Rattle.pg_program.specs.declared.syntax.Expr.TheVariants.{Value, Scalar, Add
 use Rattle.pg_program.specs.declared.syntax.Stmt.{Stmt, out-Stmt}
 use Rattle.pg_program.specs.declared.syntax.Act.{Act, out-Act}
 use Rattle.pg_program.specs.declared.syntax.Act.TheOpen.{Act-F}
-use Rattle.pg_program.specs.Words.{outside, outside_in, numbers_in}
+use Rattle.pg_program.specs.Words.{outside, outside_in}
 use Rattle.pg_program.specs.Expr.{reads, reads_step, numbers, numbers_step}
 
 -- what holds of each item of two lists holds of each item of either
@@ -86,9 +86,6 @@ reads_of_parts e a b x y is p q = by is ∙ cc
     by (inr (inl s)) = ap reads s ∙ reads-Sub a b
     by (inr (inr s)) = ap reads s ∙ reads-Mul a b
 
-pub numbers_of_value : (e : Expr) (v : ℕ) → e ≡ Value v → numbers e ≡ v ∷ []
-numbers_of_value e v is = ap numbers (is ∙ sym (rolls-Value v)) ∙ fold-roll-Expr (List ℕ) numbers_step (open_expr.Value v)
-
 pub numbers_of_scalar : (e : Expr) (r : ℕ) → e ≡ Scalar r → numbers e ≡ []
 numbers_of_scalar e r is = ap numbers (is ∙ sym (rolls-Scalar r)) ∙ fold-roll-Expr (List ℕ) numbers_step (open_expr.Scalar r)
 
@@ -104,6 +101,3 @@ numbers_of_parts e a b x y is p q = by is ∙ cc
 
 pub outside_at : (s : Stmt) (v : Act) (o : Act-F Act Stmt) → (out-Stmt s).act ≡ v → out-Act v ≡ o → outside s ≡ outside_in o
 outside_at s v o is out = ap (λ a. outside_in (out-Act a)) is ∙ ap outside_in out
-
-pub numbers_at : (a v : Act) (o : Act-F Act Stmt) → a ≡ v → out-Act v ≡ o → numbers_in (out-Act a) ≡ numbers_in o
-numbers_at a v o is out = ap (λ b. numbers_in (out-Act b)) is ∙ ap numbers_in out
