@@ -6,4 +6,5 @@ pub mod Fence
 pub mod Cas
 pub mod Access
 pub mod Parts
+pub mod Shape
 pub mod Bound

@@ -4,7 +4,6 @@ ghost use Rattle.std.specs.Prelude.{◌≡◌, ℕ, not, map};
 ghost use Rattle.pg_assertion.specs.declared.atom.ViewAtom.{ViewAtom};
 ghost use Rattle.pg_assertion.specs.declared.atom.ViewAtom.TheVariants.{Scalar, Last, Read, Then as SeenThen, Newest, Ordered, Fenced};
 ghost use Rattle.pg_assertion.specs.Layout.{IsAtom};
-ghost use Rattle.pg_tables.specs.Shapes.{frame};
 ghost use Rattle.pg_tables.specs.Table.{when, per_value, IsOneOf};
 ghost use Rattle.pg_program.specs.Words.{is_in};
 ghost use Rattle.pg_rules_access.specs.Atoms.{scalar_rows, access_rows};
@@ -12,26 +11,7 @@ ghost use Rattle.pg_rules_access.specs.Atoms.{scalar_rows, access_rows};
 use pg_assertion::ViewAtom;
 use pg_program::AuxAssign;
 use pg_region::ClauseSink;
-use pg_tables::{PerLocation, PerScalar, PerThread, PerValue, Rows, Setting, Then, When, frame};
-
-/// Each atom is what it was.
-#[derive(Clone, Copy)]
-pub struct Frames;
-
-impl Rows<ViewAtom> for Frames {
-    ghost rows = { λ l c i. frame i };
-
-    ghost fits = { λ s c i. IsAtom s.layout i };
-
-    fn offer_at<S: ClauseSink>(
-        &self,
-        i: ViewAtom,
-        setting: &Setting,
-        into: &mut S,
-    ) -> Result<(), S::Fault> {
-        frame(i).offer_at(i, setting, into)
-    }
-}
+use pg_tables::{PerLocation, PerScalar, PerThread, PerValue, Rows, Setting, Then, When};
 
 /// The rows of the scalars, without those that a bracket assigns.
 #[derive(Drop)]

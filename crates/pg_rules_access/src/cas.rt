@@ -1,21 +1,20 @@
 //! The rows of a cas.
 
-ghost use Rattle.std.specs.Prelude.{◌≡◌, ◌<◌, ◌∷◌, ◌++◌, [], ◌==◌, ◌&&◌, ◌||◌, length, None};
-ghost use Rattle.pg_assertion.specs.declared.atom.ViewAtom.{ViewAtom};
-ghost use Rattle.pg_assertion.specs.declared.atom.ViewAtom.TheVariants.{Last, Read, Then as SeenThen, Fenced};
-ghost use Rattle.pg_assertion.specs.Layout.{IsAtom, IsThreadNumber};
-ghost use Rattle.pg_tables.specs.Shapes.{before, after};
-ghost use Rattle.pg_rules_access.specs.Parts.{cas_views};
-ghost use Rattle.pg_rules_access.specs.Cas.{if_stored, cas_scalar, own_read, cas_read, own_then, cas_then, cas_view, own_fenced, cas_fenced, cas};
+ghost use Rattle.std.specs.Prelude.{◌≡◌, ℕ, ◌<◌, ◌==◌, ◌&&◌, ◌||◌, length, None};
+ghost use Rattle.pg_assertion.specs.declared.atom.ViewAtom.TheVariants.{Read, Then as SeenThen, Fenced};
+ghost use Rattle.pg_assertion.specs.Layout.{Sizes, IsAtom, IsThreadNumber};
+ghost use Rattle.pg_rules_access.specs.Parts.{cas_shapes};
+ghost use Rattle.pg_rules_access.specs.Shape.{cas_row_of, AreInCasShape};
+ghost use Rattle.pg_rules_access.specs.Cas.{if_stored, cas_scalar, own_read, own_then, cas_view, own_fenced, cas_fenced, cas};
 
 use crate::load::{Load, ReadThen};
+use crate::shape::{CasShape, HasShapes, Shape};
 use crate::store::Store;
-use pg_assertion::{StepAtom, ViewAtom};
+use pg_assertion::{Layout, StepAtom, ViewAtom};
 use pg_program::Names;
 use pg_region::ClauseSink;
 use pg_tables::{
-    Case, PerValue, Rows, Setting, Then, Under, after, always, becomes, becomes_both, before,
-    frame, implies, only_where,
+    Case, PerValue, Rows, Setting, Then, Under, after, becomes, before, frame, implies, only_where,
 };
 
 /// A cas of a thread on a location, which reads into a scalar.
@@ -25,34 +24,6 @@ pub struct Cas<'a> {
     pub thread: u8,
     pub target: u8,
     pub location: u8,
-}
-
-impl<'a> Cas<'a> {
-    // The store of a cas that succeeds, and whether it changes the atom.
-    fn if_stored(&self, changed: bool) -> IfStored<'a>
-        ensures names { result.names.now ≡ self.now.names.now }
-        ensures thread { result.thread ≡ self.now.thread }
-        ensures location { result.location ≡ self.now.location }
-        ensures changed { result.changed ≡ changed }
-    {
-        IfStored {
-            names: self.names,
-            thread: self.thread,
-            location: self.location,
-            changed,
-        }
-    }
-
-    // The load of a cas that fails.
-    fn load(&self) -> Load
-        ensures { result ≡ record { thread = self.now.thread; target = self.now.target; location = self.now.location } }
-    {
-        Load {
-            thread: self.thread,
-            target: self.target,
-            location: self.location,
-        }
-    }
 }
 
 impl<'a> Rows<ViewAtom> for Cas<'a> {
@@ -70,85 +41,144 @@ impl<'a> Rows<ViewAtom> for Cas<'a> {
             ViewAtom::Scalar { r, k } => {
                 CasScalar { load: self.load() }.offer_at((r, k), setting, into)
             }
-            ViewAtom::Last { x, .. } => {
-                self.if_stored(x == self.location)
-                    .offer_at(i, setting, into)
+            ViewAtom::Read { t, x, v } if t == self.thread => {
+                OwnRead { load: self.load() }.offer_at((x, v), setting, into)
             }
-            ViewAtom::Read { t, x, v } => {
-                CasRead { cas: *self }.offer_at(((t, x), v), setting, into)
+            _ => self.shape(i, &setting.layout).offer_at(i, setting, into),
+        }
+    }
+}
+
+impl<'a> Cas<'a> {
+    // The load of a cas that fails.
+    fn load(&self) -> Load
+        ensures { result ≡ record { thread = self.now.thread; target = self.now.target; location = self.now.location } }
+    {
+        Load {
+            thread: self.thread,
+            target: self.target,
+            location: self.location,
+        }
+    }
+
+    // The row of an atom other than a scalar, and than what the acting thread may read.
+    fn shape(&self, i: ViewAtom, layout: &Layout) -> CasShape
+        requires atom { IsAtom layout.now i }
+        requires locations { layout.now.locations ≡ length self.now.names.now.locations }
+        requires location { self.now.location < layout.now.locations }
+        ensures row { cas_row_of result i ≡ cas_shapes self.now.names.now self.now.thread self.now.location i }
+        ensures within { AreInCasShape layout.now result }
+    {
+        match i {
+            ViewAtom::Last { x, .. } | ViewAtom::Read { x, .. } => {
+                self.if_stored(x == self.location, i, layout)
             }
             ViewAtom::Then { t, x, v, y, w } => {
-                CasThen { cas: *self }.offer_at(((((t, x), v), y), w), setting, into)
+                if t == self.thread {
+                    own_then(t, (x, v), (y, w))
+                } else {
+                    self.if_stored(is_either(x, y, self.location), i, layout)
+                }
             }
-            _ => CasViews { cas: *self }.offer_at(i, setting, into),
+            ViewAtom::Newest { t, x } | ViewAtom::Ordered { t, x } => self.view(t, x, i, layout),
+            ViewAtom::Fenced { t, x } => self.fenced(t, x, layout),
+            _ => CasShape::Plain(Shape::Frame),
         }
     }
-}
 
-/// What is newest, ordered or fenced.
-#[derive(Drop)]
-struct CasViews<'a> {
-    cas: Cas<'a>,
-}
-
-impl<'a> Rows<ViewAtom> for CasViews<'a> {
-    ghost rows = { λ l c i. cas_views c.cas.names.now c.cas.thread c.cas.location i };
-
-    ghost fits = { λ s c i. (s.case ≡ None) × IsAtom s.layout i × (s.layout.locations ≡ length c.cas.names.now.locations) × (c.cas.location < s.layout.locations) };
-
-    fn offer_at<S: ClauseSink>(
-        &self,
-        i: ViewAtom,
-        setting: &Setting,
-        into: &mut S,
-    ) -> Result<(), S::Fault> {
-        match i {
-            ViewAtom::Newest { t, x } | ViewAtom::Ordered { t, x } => CasView {
-                cas: self.cas,
-                t,
-                x,
-            }
-            .offer_at(i, setting, into),
-            ViewAtom::Fenced { t, x } => {
-                CasFenced { cas: self.cas }.offer_at((t, x), setting, into)
-            }
-            _ => frame(i).offer_at((), setting, into),
-        }
-    }
-}
-
-/// An atom that a store would change: it is what the store makes it where the cas succeeds, and what it was where it fails.
-#[derive(Drop)]
-struct IfStored<'a> {
-    names: &'a Names,
-    thread: u8,
-    location: u8,
-    changed: bool,
-}
-
-impl<'a> Rows<ViewAtom> for IfStored<'a> {
-    ghost rows = { λ l c i. if_stored c.changed c.names.now c.thread c.location i };
-
-    ghost fits = { λ s c i. (s.case ≡ None) × IsAtom s.layout i × (s.layout.locations ≡ length c.names.now.locations) × (c.location < s.layout.locations) };
-
-    fn offer_at<S: ClauseSink>(
-        &self,
-        i: ViewAtom,
-        setting: &Setting,
-        into: &mut S,
-    ) -> Result<(), S::Fault> {
-        if self.changed {
+    // An atom that a store would change: it is what the store makes it where the cas succeeds, and what it was where it fails.
+    fn if_stored(&self, changed: bool, i: ViewAtom, layout: &Layout) -> CasShape
+        requires atom { IsAtom layout.now i }
+        requires locations { layout.now.locations ≡ length self.now.names.now.locations }
+        requires location { self.now.location < layout.now.locations }
+        ensures row { cas_row_of result i ≡ if_stored changed self.now.names.now self.now.thread self.now.location i }
+        ensures within { AreInCasShape layout.now result }
+    {
+        if changed {
             let store = Store {
                 names: self.names,
                 thread: self.thread,
                 location: self.location,
             };
-            Then(Under(Case::Succeeds, store), Under(Case::Fails, frame(i))).offer_at(
-                i, setting, into,
-            )
+            CasShape::Split(store.shape(i, layout), Shape::Frame)
         } else {
-            frame(i).offer_at((), setting, into)
+            CasShape::Plain(Shape::Frame)
         }
+    }
+
+    // What of a thread is newest or ordered: all where the cas succeeds, and what is fenced where it fails.
+    fn view(&self, t: u8, x: u8, i: ViewAtom, layout: &Layout) -> CasShape
+        requires atom { IsAtom layout.now i }
+        requires fenced { IsAtom layout.now (Fenced t x) }
+        requires locations { layout.now.locations ≡ length self.now.names.now.locations }
+        requires location { self.now.location < layout.now.locations }
+        ensures row { cas_row_of result i ≡ cas_view (t == self.now.thread) (x == self.now.location) self.now.names.now self.now.thread self.now.location t x i }
+        ensures within { AreInCasShape layout.now result }
+    {
+        if t == self.thread {
+            let fenced = after(ViewAtom::Fenced { t, x });
+            CasShape::Split(Shape::Always, Shape::Becomes(fenced))
+        } else {
+            self.if_stored(x == self.location, i, layout)
+        }
+    }
+
+    // What a thread's flushes are fenced after.
+    fn fenced(&self, t: u8, x: u8, layout: &Layout) -> CasShape
+        requires atom { IsAtom layout.now (Fenced t x) }
+        requires locations { layout.now.locations ≡ length self.now.names.now.locations }
+        requires location { self.now.location < layout.now.locations }
+        ensures row { cas_row_of result (Fenced t x) ≡ cas_fenced (t == self.now.thread) (x == self.now.location) self.now.names.now self.now.thread self.now.location t x }
+        ensures within { AreInCasShape layout.now result }
+    {
+        if t == self.thread {
+            own_fenced(t, x == self.location, self.location)
+        } else {
+            self.if_stored(x == self.location, ViewAtom::Fenced { t, x }, layout)
+        }
+    }
+}
+
+/// What the acting thread may read, and then read: last values where the cas succeeds, and less than before where it fails.
+fn own_then(t: u8, first: (u8, u8), second: (u8, u8)) -> CasShape
+    ensures row { cas_row_of result (SeenThen t first.0 first.1 second.0 second.1) ≡ own_then (first.0 == second.0 && first.1 == second.1) t first.0 first.1 second.0 second.1 }
+    ensures within { (l : Sizes) → IsAtom l (SeenThen t first.0 first.1 second.0 second.1) → AreInCasShape l result }
+{
+    let ((x, v), (y, w)) = (first, second);
+    let fails = Shape::OnlyWhere(before(ViewAtom::Then { t, x, v, y, w }));
+    let last = after(ViewAtom::Last { x, v });
+    if is_same(first, second) {
+        CasShape::Split(Shape::Becomes(last), fails)
+    } else {
+        let then = after(ViewAtom::Last { x: y, v: w });
+        CasShape::Split(Shape::BecomesBoth(last, then), fails)
+    }
+}
+
+/// Whether two reads are of the same value of the same location.
+fn is_same(first: (u8, u8), second: (u8, u8)) -> bool
+    ensures { result ≡ (first.0 == second.0 && first.1 == second.1) }
+{
+    first.0 == second.0 && first.1 == second.1
+}
+
+/// Whether one of two locations is that of the cas.
+fn is_either(x: u8, y: u8, location: u8) -> bool
+    ensures { result ≡ (x == location || y == location) }
+{
+    x == location || y == location
+}
+
+/// What the acting thread's flushes of a location are ordered after, which may be that of the cas.
+fn own_fenced(t: u8, here: bool, location: u8) -> CasShape
+    ensures row { (z : ℕ) → cas_row_of result (Fenced t z) ≡ own_fenced here t location z }
+    ensures within { (l : Sizes) → IsAtom l (Fenced t location) → AreInCasShape l result }
+{
+    if here {
+        CasShape::Split(Shape::Always, Shape::Keeps)
+    } else {
+        let fenced = before(ViewAtom::Fenced { t, x: location });
+        CasShape::Split(Shape::Always, Shape::Grows(fenced))
     }
 }
 
@@ -193,37 +223,6 @@ impl Rows<(u8, u8)> for CasScalar {
     }
 }
 
-/// What a thread may read of a location.
-#[derive(Drop)]
-struct CasRead<'a> {
-    cas: Cas<'a>,
-}
-
-impl<'a> Rows<((u8, u8), u8)> for CasRead<'a> {
-    ghost rows = { λ l c i. cas_read l (i.0.0 == c.cas.thread) (i.0.1 == c.cas.location) c.cas.names.now c.cas.thread c.cas.target c.cas.location i.0.0 i.0.1 i.1 };
-
-    ghost fits = { λ s c i. (s.case ≡ None) × IsAtom s.layout (Read i.0.0 i.0.1 i.1) × (s.layout.locations ≡ length c.cas.names.now.locations) × (c.cas.target < s.layout.scalars) × (c.cas.location < s.layout.locations) };
-
-    fn offer_at<S: ClauseSink>(
-        &self,
-        i: ((u8, u8), u8),
-        setting: &Setting,
-        into: &mut S,
-    ) -> Result<(), S::Fault> {
-        let ((t, x), v) = i;
-        if t == self.cas.thread {
-            OwnRead {
-                load: self.cas.load(),
-            }
-            .offer_at((x, v), setting, into)
-        } else {
-            self.cas
-                .if_stored(x == self.cas.location)
-                .offer_at(ViewAtom::Read { t, x, v }, setting, into)
-        }
-    }
-}
-
 /// What the acting thread may read of a location: the last value where the cas succeeds, and what a load leaves where it fails.
 #[derive(Drop)]
 struct OwnRead {
@@ -261,192 +260,5 @@ impl Rows<(u8, u8)> for OwnRead {
             ),
         )
         .offer_at((), setting, into)
-    }
-}
-
-/// What a thread may read, and then read.
-#[derive(Drop)]
-struct CasThen<'a> {
-    cas: Cas<'a>,
-}
-
-impl<'a> Rows<((((u8, u8), u8), u8), u8)> for CasThen<'a> {
-    ghost rows = { λ l c i. cas_then (i.0.0.0.0 == c.cas.thread) (i.0.0.0.1 == c.cas.location || i.0.1 == c.cas.location) (i.0.0.0.1 == i.0.1 && i.0.0.1 == i.1) c.cas.names.now c.cas.thread c.cas.location i.0.0.0.0 i.0.0.0.1 i.0.0.1 i.0.1 i.1 };
-
-    ghost fits = { λ s c i. (s.case ≡ None) × IsAtom s.layout (SeenThen i.0.0.0.0 i.0.0.0.1 i.0.0.1 i.0.1 i.1) × (s.layout.locations ≡ length c.cas.names.now.locations) × (c.cas.location < s.layout.locations) };
-
-    fn offer_at<S: ClauseSink>(
-        &self,
-        i: ((((u8, u8), u8), u8), u8),
-        setting: &Setting,
-        into: &mut S,
-    ) -> Result<(), S::Fault> {
-        let ((((t, x), v), y), w) = i;
-        if t == self.cas.thread {
-            OwnThen {
-                same: is_same((x, v), (y, w)),
-            }
-            .offer_at(((((self.cas.thread, x), v), y), w), setting, into)
-        } else {
-            self.cas
-                .if_stored(is_either(x, y, self.cas.location))
-                .offer_at(ViewAtom::Then { t, x, v, y, w }, setting, into)
-        }
-    }
-}
-
-/// Whether one of two locations is that of the cas.
-fn is_either(x: u8, y: u8, location: u8) -> bool
-    ensures { result ≡ (x == location || y == location) }
-{
-    x == location || y == location
-}
-
-/// Whether two reads are of the same value of the same location.
-fn is_same(first: (u8, u8), second: (u8, u8)) -> bool
-    ensures { result ≡ (first.0 == second.0 && first.1 == second.1) }
-{
-    first.0 == second.0 && first.1 == second.1
-}
-
-/// What the acting thread may read, and then read: last values where the cas succeeds, and less than before where it fails.
-#[derive(Drop)]
-struct OwnThen {
-    same: bool,
-}
-
-impl Rows<((((u8, u8), u8), u8), u8)> for OwnThen {
-    ghost rows = { λ l c i. own_then c.same i.0.0.0.0 i.0.0.0.1 i.0.0.1 i.0.1 i.1 };
-
-    ghost fits = { λ s c i. (s.case ≡ None) × IsAtom s.layout (SeenThen i.0.0.0.0 i.0.0.0.1 i.0.0.1 i.0.1 i.1) };
-
-    fn offer_at<S: ClauseSink>(
-        &self,
-        i: ((((u8, u8), u8), u8), u8),
-        setting: &Setting,
-        into: &mut S,
-    ) -> Result<(), S::Fault> {
-        let ((((t, x), v), y), w) = i;
-        let atom = ViewAtom::Then { t, x, v, y, w };
-        let first = after(ViewAtom::Last { x, v });
-        let fails = Under(Case::Fails, only_where(after(atom), before(atom)));
-        if self.same {
-            Then(Under(Case::Succeeds, becomes(after(atom), first)), fails).offer_at(
-                (),
-                setting,
-                into,
-            )
-        } else {
-            let second = after(ViewAtom::Last { x: y, v: w });
-            Then(
-                Under(Case::Succeeds, becomes_both(after(atom), first, second)),
-                fails,
-            )
-            .offer_at((), setting, into)
-        }
-    }
-}
-
-/// What of a thread is newest or ordered: all where the cas succeeds, and what is fenced where it fails.
-#[derive(Drop)]
-struct CasView<'a> {
-    cas: Cas<'a>,
-    t: u8,
-    x: u8,
-}
-
-impl<'a> Rows<ViewAtom> for CasView<'a> {
-    ghost rows = { λ l c i. cas_view (c.t == c.cas.thread) (c.x == c.cas.location) c.cas.names.now c.cas.thread c.cas.location c.t c.x i };
-
-    ghost fits = { λ s c i. (s.case ≡ None) × IsAtom s.layout i × IsAtom s.layout (Fenced c.t c.x) × (s.layout.locations ≡ length c.cas.names.now.locations) × (c.cas.location < s.layout.locations) };
-
-    fn offer_at<S: ClauseSink>(
-        &self,
-        i: ViewAtom,
-        setting: &Setting,
-        into: &mut S,
-    ) -> Result<(), S::Fault> {
-        if self.t == self.cas.thread {
-            let fenced = after(ViewAtom::Fenced {
-                t: self.t,
-                x: self.x,
-            });
-            Then(
-                Under(Case::Succeeds, always(after(i))),
-                Under(Case::Fails, becomes(after(i), fenced)),
-            )
-            .offer_at((), setting, into)
-        } else {
-            self.cas
-                .if_stored(self.x == self.cas.location)
-                .offer_at(i, setting, into)
-        }
-    }
-}
-
-/// What a thread's flushes are fenced after.
-#[derive(Drop)]
-struct CasFenced<'a> {
-    cas: Cas<'a>,
-}
-
-impl<'a> Rows<(u8, u8)> for CasFenced<'a> {
-    ghost rows = { λ l c i. cas_fenced (i.0 == c.cas.thread) (i.1 == c.cas.location) c.cas.names.now c.cas.thread c.cas.location i.0 i.1 };
-
-    ghost fits = { λ s c i. (s.case ≡ None) × IsAtom s.layout (Fenced i.0 i.1) × (s.layout.locations ≡ length c.cas.names.now.locations) × (c.cas.location < s.layout.locations) };
-
-    fn offer_at<S: ClauseSink>(
-        &self,
-        i: (u8, u8),
-        setting: &Setting,
-        into: &mut S,
-    ) -> Result<(), S::Fault> {
-        let (t, x) = i;
-        if t == self.cas.thread {
-            OwnFenced {
-                thread: self.cas.thread,
-                location: self.cas.location,
-            }
-            .offer_at(x, setting, into)
-        } else {
-            self.cas
-                .if_stored(x == self.cas.location)
-                .offer_at(ViewAtom::Fenced { t, x }, setting, into)
-        }
-    }
-}
-
-/// What the acting thread's flushes of a location are ordered after.
-#[derive(Drop)]
-struct OwnFenced {
-    thread: u8,
-    location: u8,
-}
-
-impl Rows<u8> for OwnFenced {
-    ghost rows = { λ l c i. own_fenced (i == c.location) c.thread c.location i };
-
-    ghost fits = { λ s c i. (s.case ≡ None) × IsAtom s.layout (Fenced c.thread i) × (c.location < s.layout.locations) };
-
-    fn offer_at<S: ClauseSink>(
-        &self,
-        i: u8,
-        setting: &Setting,
-        into: &mut S,
-    ) -> Result<(), S::Fault> {
-        let t = self.thread;
-        let atom = ViewAtom::Fenced { t, x: i };
-        let succeeds = Under(Case::Succeeds, always(after(atom)));
-        let grows = implies(&[before(atom)], &[after(atom)]);
-        if i == self.location {
-            Then(succeeds, Under(Case::Fails, [grows])).offer_at((), setting, into)
-        } else {
-            let fenced = before(ViewAtom::Fenced {
-                t,
-                x: self.location,
-            });
-            let kept = implies(&[fenced, after(atom)], &[before(atom)]);
-            Then(succeeds, Under(Case::Fails, [grows, kept])).offer_at((), setting, into)
-        }
     }
 }

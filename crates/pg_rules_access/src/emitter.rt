@@ -17,10 +17,11 @@ ghost use Rattle.pg_rules_access.specs.Fence.{mfence, sfence};
 ghost use Rattle.pg_rules_access.specs.Load.{assign, load};
 ghost use Rattle.pg_rules_access.specs.Store.{store};
 
-use crate::atoms::{AccessRows, Frames, ScalarRows};
+use crate::atoms::{AccessRows, ScalarRows};
 use crate::cas::Cas;
 use crate::fence::{Mfence, Sfence};
 use crate::load::{Assign, Load};
+use crate::shape::{Shape, Shaped};
 use crate::store::Store;
 use crate::tuples::Tuples;
 use crate::values::{
@@ -114,7 +115,7 @@ fn offer_assign<S: ClauseSink>(
     ensures { Emitted S.takes result (S.view into.old) (S.view into.new) (written (record { layout = layout.now; case = None }) (rules layout.now context.now.names.now context.now.aux.now (value_rules layout.now expr.now Value) (assign target))) }
 {
     let values = Then(Tuples(Stored { expr }), ExactlyOne(StoredValues));
-    offer_rules(values, Assign { target }, context, layout, into)
+    offer_rules(values, Shaped(Assign { target }), context, layout, into)
 }
 
 /// Gives the rules of a store to a sink.
@@ -132,11 +133,11 @@ fn offer_store<S: ClauseSink>(
     ensures { Emitted S.takes result (S.view into.old) (S.view into.new) (written (record { layout = layout.now; case = None }) (rules layout.now context.now.names.now context.now.aux.now (value_rules layout.now expr.now Value) (store context.now.names.now context.now.thread location))) }
 {
     let values = Then(Tuples(Stored { expr }), ExactlyOne(StoredValues));
-    let rows = Store {
+    let rows = Shaped(Store {
         names: context.names,
         thread: context.thread,
         location,
-    };
+    });
     offer_rules(values, rows, context, layout, into)
 }
 
@@ -214,9 +215,9 @@ fn offer_mfence<S: ClauseSink>(
     let none: [Clause; 0] = [];
     offer_rules(
         none,
-        Mfence {
+        Shaped(Mfence {
             thread: context.thread,
-        },
+        }),
         context,
         layout,
         into,
@@ -235,9 +236,9 @@ fn offer_sfence<S: ClauseSink>(
     let none: [Clause; 0] = [];
     offer_rules(
         none,
-        Sfence {
+        Shaped(Sfence {
             thread: context.thread,
-        },
+        }),
         context,
         layout,
         into,
@@ -254,7 +255,7 @@ fn offer_frames<S: ClauseSink>(
     ensures { Emitted S.takes result (S.view into.old) (S.view into.new) (written (record { layout = layout.now; case = None }) (rules layout.now context.now.names.now context.now.aux.now ([]) (frame))) }
 {
     let none: [Clause; 0] = [];
-    offer_rules(none, Frames, context, layout, into)
+    offer_rules(none, Shape::Frame, context, layout, into)
 }
 
 /// Gives the rules of a test to a sink.
@@ -276,7 +277,7 @@ fn offer_test<S: ClauseSink>(
             branch: context.branch,
         },
     );
-    offer_rules(values, Frames, context, layout, into)
+    offer_rules(values, Shape::Frame, context, layout, into)
 }
 
 /// Gives what the expressions say, the rows of the scalars, the bracket and the rows of the atoms of memory to a sink.

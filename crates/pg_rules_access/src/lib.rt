@@ -12,6 +12,7 @@ mod emitter;
 mod fence;
 mod laws;
 mod load;
+mod shape;
 mod store;
 mod tuples;
 mod values;

@@ -3,16 +3,17 @@
 ghost use Rattle.std.specs.Prelude.{◌≡◌, ◌<◌, ◌∷◌, ◌++◌, [], ◌==◌};
 ghost use Rattle.pg_assertion.specs.declared.atom.ViewAtom.{ViewAtom};
 ghost use Rattle.pg_assertion.specs.declared.atom.ViewAtom.TheVariants.{Scalar, Read, Then as SeenThen, Newest};
-ghost use Rattle.pg_assertion.specs.Layout.{IsAtom, IsThreadNumber};
+ghost use Rattle.pg_assertion.specs.Layout.{Sizes, IsAtom, IsThreadNumber};
 ghost use Rattle.pg_tables.specs.Clause.{implies};
 ghost use Rattle.pg_tables.specs.Shapes.{before, after};
 ghost use Rattle.pg_rules_access.specs.Load.{assign, load, load_scalar, load_read, load_then, load_view};
+ghost use Rattle.pg_rules_access.specs.Parts.{load_shapes};
+ghost use Rattle.pg_rules_access.specs.Shape.{row_of, AreInShape};
 
-use pg_assertion::{StepAtom, ViewAtom};
+use crate::shape::{HasShapes, Shape, Shaped};
+use pg_assertion::{Layout, StepAtom, ViewAtom};
 use pg_region::ClauseSink;
-use pg_tables::{
-    Clause, PerValue, Rows, Setting, Then, after, becomes, before, frame, implies, only_where,
-};
+use pg_tables::{PerValue, Rows, Setting, Then, after, before, frame, implies, only_where};
 
 /// An assignment to a scalar.
 #[derive(Clone, Copy)]
@@ -20,26 +21,17 @@ pub struct Assign {
     pub target: u8,
 }
 
-impl Rows<ViewAtom> for Assign {
-    ghost rows = { λ l c i. assign c.target i };
+impl HasShapes for Assign {
+    ghost rows = { λ c i. assign c.target i };
 
-    ghost fits = { λ s c i. IsAtom s.layout i };
+    ghost fits = { λ l c. Unit {0} };
 
-    fn offer_at<S: ClauseSink>(
-        &self,
-        i: ViewAtom,
-        setting: &Setting,
-        into: &mut S,
-    ) -> Result<(), S::Fault> {
+    fn shape(&self, i: ViewAtom, _layout: &Layout) -> Shape {
         match i {
-            ViewAtom::Scalar { r, k } => {
-                if r == self.target {
-                    becomes(after(i), StepAtom::Value { v: k }).offer_at((), setting, into)
-                } else {
-                    frame(i).offer_at((), setting, into)
-                }
-            }
-            _ => frame(i).offer_at((), setting, into),
+            ViewAtom::Scalar { r, k } if r == self.target => Shape::Becomes(StepAtom::Value {
+                v: k,
+            }),
+            _ => Shape::Frame,
         }
     }
 }
@@ -62,6 +54,46 @@ impl Load {
             x: self.location,
         })
     }
+
+    // A scalar, and a value of it: the target only has values that the thread could read.
+    fn scalar(&self, r: u8, k: u8) -> Shape
+        ensures row { row_of result (Scalar r k) ≡ load_scalar (r == self.now.target) self.now.thread self.now.location r k }
+        ensures within { (l : Sizes) → IsThreadNumber l self.now.thread → self.now.location < l.locations → k < l.domain → AreInShape l result }
+    {
+        if r == self.target {
+            Shape::OnlyWhere(before(ViewAtom::Read {
+                t: self.thread,
+                x: self.location,
+                v: k,
+            }))
+        } else {
+            Shape::Frame
+        }
+    }
+
+    // What a thread may read, and then read: the acting one loses.
+    fn then(&self, t: u8) -> Shape
+        ensures row { (a : ViewAtom) → row_of result a ≡ load_then (t == self.now.thread) self.now.thread self.now.location a }
+        ensures within { (l : Sizes) → IsThreadNumber l self.now.thread → self.now.location < l.locations → AreInShape l result }
+    {
+        if t == self.thread {
+            Shape::Loses(self.newest())
+        } else {
+            Shape::Frame
+        }
+    }
+
+    // What is newest, ordered or fenced: the acting thread's atoms gain.
+    fn view(&self, t: u8) -> Shape
+        ensures row { (a : ViewAtom) → row_of result a ≡ load_view (t == self.now.thread) self.now.thread self.now.location a }
+        ensures within { (l : Sizes) → IsThreadNumber l self.now.thread → self.now.location < l.locations → AreInShape l result }
+    {
+        if t == self.thread {
+            Shape::Grows(self.newest())
+        } else {
+            Shape::Frame
+        }
+    }
 }
 
 impl Rows<ViewAtom> for Load {
@@ -76,56 +108,32 @@ impl Rows<ViewAtom> for Load {
         into: &mut S,
     ) -> Result<(), S::Fault> {
         match i {
-            ViewAtom::Scalar { r, k } => {
-                LoadScalar { load: *self }.offer_at((r, k), setting, into)
-            }
             ViewAtom::Read { t, x, v } => {
                 LoadRead { load: *self }.offer_at(((t, x), v), setting, into)
             }
-            ViewAtom::Then { t, .. } => LoadThen {
-                load: *self,
-                own: t == self.thread,
-            }
-            .offer_at(i, setting, into),
-            ViewAtom::Newest { t, .. } | ViewAtom::Ordered { t, .. } | ViewAtom::Fenced { t, .. } =>
-                LoadView {
-                    load: *self,
-                    own: t == self.thread,
-                }
-                .offer_at(i, setting, into),
-            _ => frame(i).offer_at((), setting, into),
+            _ => Shaped(LoadShapes { load: *self }).offer_at(i, setting, into),
         }
     }
 }
 
-/// A scalar, and a value of it: the target only has values that the thread could read.
-#[derive(Drop)]
-struct LoadScalar {
+/// All but what a thread may read.
+#[derive(Clone, Copy)]
+struct LoadShapes {
     load: Load,
 }
 
-impl Rows<(u8, u8)> for LoadScalar {
-    ghost rows = { λ l c i. load_scalar (i.0 == c.load.target) c.load.thread c.load.location i.0 i.1 };
+impl HasShapes for LoadShapes {
+    ghost rows = { λ c i. load_shapes c.load.thread c.load.target c.load.location i };
 
-    ghost fits = { λ s c i. IsAtom s.layout (Scalar i.0 i.1) × IsThreadNumber s.layout c.load.thread × (c.load.location < s.layout.locations) };
+    ghost fits = { λ l c. IsThreadNumber l c.load.thread × (c.load.location < l.locations) };
 
-    fn offer_at<S: ClauseSink>(
-        &self,
-        i: (u8, u8),
-        setting: &Setting,
-        into: &mut S,
-    ) -> Result<(), S::Fault> {
-        let (r, k) = i;
-        let atom = ViewAtom::Scalar { r, k };
-        if r == self.load.target {
-            let read = before(ViewAtom::Read {
-                t: self.load.thread,
-                x: self.load.location,
-                v: k,
-            });
-            only_where(after(atom), read).offer_at((), setting, into)
-        } else {
-            frame(atom).offer_at((), setting, into)
+    fn shape(&self, i: ViewAtom, _layout: &Layout) -> Shape {
+        match i {
+            ViewAtom::Scalar { r, k } => self.load.scalar(r, k),
+            ViewAtom::Then { t, .. } => self.load.then(t),
+            ViewAtom::Newest { t, .. } | ViewAtom::Ordered { t, .. } | ViewAtom::Fenced { t, .. } =>
+                { self.load.view(t) }
+            _ => Shape::Frame,
         }
     }
 }
@@ -164,58 +172,6 @@ impl Rows<((u8, u8), u8)> for LoadRead {
             )
         } else {
             frame(atom).offer_at((), setting, into)
-        }
-    }
-}
-
-/// What a thread may read, and then read: the acting one loses.
-#[derive(Drop)]
-struct LoadThen {
-    load: Load,
-    own: bool,
-}
-
-impl Rows<ViewAtom> for LoadThen {
-    ghost rows = { λ l c i. load_then c.own c.load.thread c.load.location i };
-
-    ghost fits = { λ s c i. IsAtom s.layout i × IsThreadNumber s.layout c.load.thread × (c.load.location < s.layout.locations) };
-
-    fn offer_at<S: ClauseSink>(
-        &self,
-        i: ViewAtom,
-        setting: &Setting,
-        into: &mut S,
-    ) -> Result<(), S::Fault> {
-        if self.own {
-            loses(self.load.newest(), i).offer_at((), setting, into)
-        } else {
-            frame(i).offer_at((), setting, into)
-        }
-    }
-}
-
-/// What is newest, ordered or fenced: the acting thread's atoms gain.
-#[derive(Drop)]
-struct LoadView {
-    load: Load,
-    own: bool,
-}
-
-impl Rows<ViewAtom> for LoadView {
-    ghost rows = { λ l c i. load_view c.own c.load.thread c.load.location i };
-
-    ghost fits = { λ s c i. IsAtom s.layout i × IsThreadNumber s.layout c.load.thread × (c.load.location < s.layout.locations) };
-
-    fn offer_at<S: ClauseSink>(
-        &self,
-        i: ViewAtom,
-        setting: &Setting,
-        into: &mut S,
-    ) -> Result<(), S::Fault> {
-        if self.own {
-            gains(self.load.newest(), i).offer_at((), setting, into)
-        } else {
-            frame(i).offer_at((), setting, into)
         }
     }
 }
@@ -260,24 +216,4 @@ impl Rows<((), u8)> for ReadThen {
         });
         [implies(&[loaded, read], &[then])].offer_at((), setting, into)
     }
-}
-
-// The atom only loses, and keeps where `newest` holds.
-fn loses(newest: StepAtom, atom: ViewAtom) -> [Clause; 2]
-    ensures { result ≡ implies (after atom ∷ []) (before atom ∷ []) ∷ implies (newest ∷ before atom ∷ []) (after atom ∷ []) ∷ [] }
-{
-    [
-        implies(&[after(atom)], &[before(atom)]),
-        implies(&[newest, before(atom)], &[after(atom)]),
-    ]
-}
-
-// The atom only gains, and keeps where `newest` holds.
-fn gains(newest: StepAtom, atom: ViewAtom) -> [Clause; 2]
-    ensures { result ≡ implies (before atom ∷ []) (after atom ∷ []) ∷ implies (newest ∷ after atom ∷ []) (before atom ∷ []) ∷ [] }
-{
-    [
-        implies(&[before(atom)], &[after(atom)]),
-        implies(&[newest, after(atom)], &[before(atom)]),
-    ]
 }
