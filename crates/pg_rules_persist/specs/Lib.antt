@@ -1,3 +1,4 @@
 pub mod Rows
+pub mod Shape
 pub mod Persist
 pub mod Bound

@@ -1,8 +1,7 @@
 //! The persistency rules of a step.
 
 ghost use Rattle.std.specs.Prelude.{◌≡◌, ◌<◌, None, length};
-ghost use Rattle.pg_assertion.specs.declared.atom.ViewAtom.{ViewAtom};
-ghost use Rattle.pg_assertion.specs.Layout.{IsAtom, IsThreadNumber, sizes};
+ghost use Rattle.pg_assertion.specs.Layout.{IsThreadNumber, sizes};
 ghost use Rattle.pg_program.specs.declared.syntax.Act.{out-Act};
 ghost use Rattle.pg_region.specs.Sink.{Emitted};
 ghost use Rattle.pg_tables.specs.Clause.{written};
@@ -10,11 +9,11 @@ ghost use Rattle.pg_tables.specs.Steps.{IsStepOf};
 ghost use Rattle.pg_rules_persist.specs.Persist.{IsActOver, act_row, persist_rows, persist};
 
 use crate::atoms::PersistRows;
-use crate::rows::{Cas, Fence, Flush, Flushopt, Frames, Store};
-use pg_assertion::{Layout, ViewAtom};
+use crate::rows::{ActRows, Kind};
+use pg_assertion::Layout;
 use pg_program::{Act, Names, PointId, Program, Step};
 use pg_region::ClauseSink;
-use pg_tables::{Rows, offer};
+use pg_tables::offer;
 
 /// Gives the persistency rules of a step to a sink, in their order. After a fault it has those before the one that it did not take.
 pub fn persist_rules<S: ClauseSink>(
@@ -50,55 +49,11 @@ fn offer_act<S: ClauseSink>(
     requires act { IsActOver layout.now (out-Act act.now) }
     ensures { Emitted S.takes result (S.view into.old) (S.view into.new) (written (record { layout = layout.now; case = None }) (persist_rows layout.now (act_row names.now thread (out-Act act.now)))) }
 {
-    match act {
-        Act::Store { location, .. } => offer_rows(
-            Store {
-                location: *location,
-            },
-            layout,
-            into,
-        ),
-        Act::Cas { location, .. } => offer_rows(
-            Cas {
-                thread,
-                location: *location,
-            },
-            layout,
-            into,
-        ),
-        Act::Mfence | Act::Sfence => offer_rows(Fence { thread }, layout, into),
-        Act::Flush { location } => offer_rows(
-            Flush {
-                names,
-                thread,
-                location: *location,
-            },
-            layout,
-            into,
-        ),
-        Act::Flushopt { location } => offer_rows(
-            Flushopt {
-                names,
-                thread,
-                location: *location,
-            },
-            layout,
-            into,
-        ),
-        Act::Assign { .. } | Act::Load { .. } | Act::If { .. } | Act::While { .. } => {
-            offer_rows(Frames, layout, into)
-        }
-    }
-}
-
-/// Gives the rows of the atoms that speak of a crash to a sink.
-fn offer_rows<R: Rows<ViewAtom> + Copy, S: ClauseSink>(
-    rows: R,
-    layout: &Layout,
-    into: &mut S,
-) -> Result<(), S::Fault>
-    requires { (a : ViewAtom) → IsAtom layout.now a → R.fits (record { layout = layout.now; case = None }) rows a }
-    ensures { Emitted S.takes result (S.view into.old) (S.view into.new) (written (record { layout = layout.now; case = None }) (persist_rows layout.now (R.rows layout.now rows))) }
-{
+    let kind = Kind::of(act);
+    let rows = ActRows {
+        names,
+        thread,
+        kind,
+    };
     offer(&PersistRows(rows), layout, into)
 }

@@ -10,6 +10,7 @@ mod atoms;
 mod emitter;
 mod laws;
 mod rows;
+mod shape;
 
 pub use emitter::persist_rules;
 pub use laws::persist_rules_are_counted;

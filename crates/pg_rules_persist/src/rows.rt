@@ -1,128 +1,68 @@
-//! The rows of what a crash may leave, for each statement.
+//! The rows of what a crash may leave, for each kind of act.
 
-ghost use Rattle.std.specs.Prelude.{◌≡◌, ◌<◌, ◌==◌, true, None, length};
+ghost use Rattle.std.specs.Prelude.{◌≡◌, ℕ, ◌<◌, ◌==◌, None, length};
 ghost use Rattle.pg_assertion.specs.declared.atom.ViewAtom.TheVariants.{Persist, Async};
-ghost use Rattle.pg_assertion.specs.Layout.{IsAtom, IsThreadNumber};
 ghost use Rattle.pg_assertion.specs.declared.step_atom.StepAtom.{StepAtom};
-ghost use Rattle.pg_tables.specs.Shapes.{frame, before};
-ghost use Rattle.pg_tables.specs.Steps.{same_line};
-ghost use Rattle.pg_rules_persist.specs.Rows.{store, fence, flush, flush_persist, flushopt, flushopt_async, cas, cas_persist, cas_async, becomes_both_or};
+ghost use Rattle.pg_assertion.specs.Layout.{Sizes, IsAtom, IsThreadNumber};
+ghost use Rattle.pg_program.specs.declared.syntax.Act.{out-Act};
+ghost use Rattle.pg_program.specs.NameTable.{NameTable};
+ghost use Rattle.pg_tables.specs.Shapes.{before, after};
+ghost use Rattle.pg_rules_persist.specs.Persist.{IsActOver, act_row};
+ghost use Rattle.pg_rules_persist.specs.Rows.{store_gains, fence_async, flush_persist, flush_async, flushopt_async, cas_persist, cas_async};
+ghost use Rattle.pg_rules_persist.specs.Shape.{row_of, AreInRow, kind_row, IsKindWithin};
 
+use crate::shape::{Row, Shape};
 use pg_assertion::{StepAtom, ViewAtom};
-use pg_program::Names;
+use pg_program::{Act, Names};
 use pg_region::ClauseSink;
-use pg_tables::{
-    Case, Clause, Rows, Setting, Then, Under, after, becomes, becomes_both, before, frame, gains,
-    implies, same_line,
-};
+use pg_tables::{Rows, Setting, after, before, same_line};
 
-/// Each atom is what it was.
+/// What an act does to what a crash may leave, and to which location.
 #[derive(Clone, Copy)]
-pub struct Frames;
-
-impl Rows<ViewAtom> for Frames {
-    ghost rows = { λ l c i. frame i };
-
-    ghost fits = { λ s c i. IsAtom s.layout i };
-
-    fn offer_at<S: ClauseSink>(
-        &self,
-        i: ViewAtom,
-        setting: &Setting,
-        into: &mut S,
-    ) -> Result<(), S::Fault> {
-        frame(i).offer_at(i, setting, into)
-    }
+pub enum Kind {
+    Store(u8),
+    Cas(u8),
+    /// An `mfence` or an `sfence`, which commits each line.
+    Fence,
+    /// A `flush`, of the line of a location.
+    Flush(u8),
+    /// A `flushopt`, of the line of a location.
+    Flushopt(u8),
+    /// Nothing.
+    Other,
 }
 
-/// A store to a location.
-#[derive(Clone, Copy)]
-pub struct Store {
-    pub location: u8,
-}
-
-impl Rows<ViewAtom> for Store {
-    ghost rows = { λ l c i. store c.location i };
-
-    ghost fits = { λ s c i. IsAtom s.layout i };
-
-    fn offer_at<S: ClauseSink>(
-        &self,
-        i: ViewAtom,
-        setting: &Setting,
-        into: &mut S,
-    ) -> Result<(), S::Fault> {
-        match i {
-            ViewAtom::Persist { x, v } | ViewAtom::Async { x, v, .. } if x == self.location => {
-                gains(after(i), before(i), StepAtom::Value { v }).offer_at((), setting, into)
-            }
-            _ => frame(i).offer_at((), setting, into),
-        }
-    }
-}
-
-/// A fence of a thread, which commits each line.
-#[derive(Clone, Copy)]
-pub struct Fence {
-    pub thread: u8,
-}
-
-impl Rows<ViewAtom> for Fence {
-    ghost rows = { λ l c i. fence c.thread i };
-
-    ghost fits = { λ s c i. IsAtom s.layout i × IsThreadNumber s.layout c.thread };
-
-    fn offer_at<S: ClauseSink>(
-        &self,
-        i: ViewAtom,
-        setting: &Setting,
-        into: &mut S,
-    ) -> Result<(), S::Fault> {
-        match i {
-            ViewAtom::Persist { x, v } => {
-                becomes(after(i), self.pending(x, v)).offer_at((), setting, into)
-            }
-            ViewAtom::Async { t, x, v } => {
-                if t == self.thread {
-                    frame(i).offer_at((), setting, into)
-                } else {
-                    becomes_both(after(i), before(i), self.pending(x, v)).offer_at(
-                        (),
-                        setting,
-                        into,
-                    )
-                }
-            }
-            _ => frame(i).offer_at((), setting, into),
-        }
-    }
-}
-
-impl Fence {
-    // What the fence commits may leave `v` at `x`.
-    fn pending(&self, x: u8, v: u8) -> StepAtom
-        ensures { result ≡ before (Async self.now.thread x v) }
+impl Kind {
+    /// The kind of an act.
+    pub fn of(act: &Act) -> Kind
+        ensures row { (names : NameTable) (s : ℕ) → kind_row names s result ≡ act_row names s (out-Act act.now) }
+        ensures within { (l : Sizes) → IsActOver l (out-Act act.now) → IsKindWithin l.locations result }
     {
-        before(ViewAtom::Async {
-            t: self.thread,
-            x,
-            v,
-        })
+        match act {
+            Act::Store { location, .. } => Kind::Store(*location),
+            Act::Cas { location, .. } => Kind::Cas(*location),
+            Act::Mfence | Act::Sfence => Kind::Fence,
+            Act::Flush { location } => Kind::Flush(*location),
+            Act::Flushopt { location } => Kind::Flushopt(*location),
+            Act::Assign { .. } | Act::Load { .. } | Act::If { .. } | Act::While { .. } => {
+                Kind::Other
+            }
+        }
     }
 }
 
-/// A `flush` of a thread: of the line of a location.
+/// The rows of an act of a thread.
 #[derive(Clone, Copy)]
-pub struct Flush<'a> {
+pub struct ActRows<'a> {
     pub names: &'a Names,
     pub thread: u8,
-    pub location: u8,
+    pub kind: Kind,
 }
 
-impl<'a> Rows<ViewAtom> for Flush<'a> {
-    ghost rows = { λ l c i. flush c.names.now c.thread c.location i };
+impl<'a> Rows<ViewAtom> for ActRows<'a> {
+    ghost rows = { λ l c i. kind_row c.names.now c.thread c.kind i };
 
-    ghost fits = { λ s c i. IsAtom s.layout i × IsThreadNumber s.layout c.thread × (s.layout.locations ≡ length c.names.now.locations) × (c.location < s.layout.locations) };
+    ghost fits = { λ s c i. (s.case ≡ None) × IsAtom s.layout i × IsThreadNumber s.layout c.thread × (s.layout.locations ≡ length c.names.now.locations) × IsKindWithin s.layout.locations c.kind };
 
     fn offer_at<S: ClauseSink>(
         &self,
@@ -131,207 +71,147 @@ impl<'a> Rows<ViewAtom> for Flush<'a> {
         into: &mut S,
     ) -> Result<(), S::Fault> {
         match i {
-            ViewAtom::Persist { x, v } => {
-                if same_line(self.names, self.location, x) {
-                    flushed(self.thread, x, v).offer_at((), setting, into)
-                } else {
-                    frame(i).offer_at((), setting, into)
-                }
-            }
-            ViewAtom::Async { x, v, .. } => {
-                if same_line(self.names, self.location, x) {
-                    let persists = after(ViewAtom::Persist { x, v });
-                    becomes_both(after(i), before(i), persists).offer_at((), setting, into)
-                } else {
-                    frame(i).offer_at((), setting, into)
-                }
-            }
-            _ => frame(i).offer_at((), setting, into),
+            ViewAtom::Persist { x, v } => self.persist(x, v).offer_at(i, setting, into),
+            ViewAtom::Async { t, x, v } => self.pending(t, x, v).offer_at(i, setting, into),
+            _ => Shape::Frame.offer_at(i, setting, into),
         }
     }
 }
 
-// A thread flushed the line of `x`.
-fn flushed(t: u8, x: u8, v: u8) -> [Clause; 4]
-    ensures { result ≡ flush_persist true t x v }
+impl<'a> ActRows<'a> {
+    // What a crash may leave after the act.
+    fn persist(&self, x: u8, v: u8) -> Row
+        requires x { x < length self.now.names.now.locations }
+        requires kind { IsKindWithin (length self.now.names.now.locations) self.now.kind }
+        ensures row { row_of result (Persist x v) ≡ kind_row self.now.names.now self.now.thread self.now.kind (Persist x v) }
+        ensures within { (l : Sizes) → IsThreadNumber l self.now.thread → x < l.locations → v < l.domain → AreInRow l result }
+    {
+        match self.kind {
+            Kind::Store(location) => stored(x == location, ViewAtom::Persist { x, v }, v),
+            Kind::Cas(location) => cas_persist(x == location, self.thread, x, v),
+            Kind::Fence => Row::Plain(Shape::Becomes(committed(self.thread, x, v))),
+            Kind::Flush(location) => {
+                flush_persist(same_line(self.names, location, x), self.thread, x, v)
+            }
+            Kind::Flushopt(_) | Kind::Other => Row::Plain(Shape::Frame),
+        }
+    }
+
+    // What a crash may leave after the act and a fence of a thread.
+    fn pending(&self, t: u8, x: u8, v: u8) -> Row
+        requires x { x < length self.now.names.now.locations }
+        requires kind { IsKindWithin (length self.now.names.now.locations) self.now.kind }
+        ensures row { row_of result (Async t x v) ≡ kind_row self.now.names.now self.now.thread self.now.kind (Async t x v) }
+        ensures within { (l : Sizes) → IsThreadNumber l self.now.thread → IsThreadNumber l t → x < l.locations → v < l.domain → AreInRow l result }
+    {
+        let own = t == self.thread;
+        match self.kind {
+            Kind::Store(location) => stored(x == location, ViewAtom::Async { t, x, v }, v),
+            Kind::Cas(location) => cas_async(own, x == location, self.thread, t, x, v),
+            Kind::Fence => fence_async(own, self.thread, t, x, v),
+            Kind::Flush(location) => flush_async(same_line(self.names, location, x), x, v),
+            Kind::Flushopt(location) => {
+                flushopt_async(own, same_line(self.names, location, x), t, x, v)
+            }
+            Kind::Other => Row::Plain(Shape::Frame),
+        }
+    }
+}
+
+// What a fence of a thread commits may leave `v` at `x`.
+fn committed(t: u8, x: u8, v: u8) -> StepAtom
+    ensures { result ≡ before (Async t x v) }
 {
-    let atom = ViewAtom::Persist { x, v };
-    let read = before(ViewAtom::Read { t, x, v });
-    let pending = before(ViewAtom::Async { t, x, v });
-    let fenced = before(ViewAtom::Fenced { t, x });
-    let last = before(ViewAtom::Last { x, v });
-    [
-        implies(&[after(atom)], &[before(atom)]),
-        implies(&[after(atom)], &[read]),
-        implies(&[after(atom)], &[pending]),
-        implies(&[fenced, after(atom)], &[last]),
-    ]
+    before(ViewAtom::Async { t, x, v })
 }
 
-/// A `flushopt` of a thread: of the line of a location.
-#[derive(Clone, Copy)]
-pub struct Flushopt<'a> {
-    pub names: &'a Names,
-    pub thread: u8,
-    pub location: u8,
-}
-
-impl<'a> Rows<ViewAtom> for Flushopt<'a> {
-    ghost rows = { λ l c i. flushopt c.names.now c.thread c.location i };
-
-    ghost fits = { λ s c i. IsAtom s.layout i × (s.layout.locations ≡ length c.names.now.locations) × (c.location < s.layout.locations) };
-
-    fn offer_at<S: ClauseSink>(
-        &self,
-        i: ViewAtom,
-        setting: &Setting,
-        into: &mut S,
-    ) -> Result<(), S::Fault> {
-        match i {
-            ViewAtom::Async { t, x, v } => {
-                if t == self.thread && same_line(self.names, self.location, x) {
-                    flush_begun(t, x, v).offer_at((), setting, into)
-                } else {
-                    frame(i).offer_at((), setting, into)
-                }
-            }
-            _ => frame(i).offer_at((), setting, into),
-        }
-    }
-}
-
-// A thread began to write the line of `x` back.
-fn flush_begun(t: u8, x: u8, v: u8) -> [Clause; 3]
-    ensures { result ≡ flushopt_async true true t x v }
+// A new message may persist, whatever is committed.
+fn stored(here: bool, atom: ViewAtom, v: u8) -> Row
+    ensures row { row_of result atom ≡ store_gains here atom v }
+    ensures within { (l : Sizes) → IsAtom l atom → v < l.domain → AreInRow l result }
 {
-    let atom = ViewAtom::Async { t, x, v };
-    let read = before(ViewAtom::Read { t, x, v });
-    let ordered = before(ViewAtom::Ordered { t, x });
-    let last = before(ViewAtom::Last { x, v });
-    [
-        implies(&[after(atom)], &[before(atom)]),
-        implies(&[after(atom)], &[read]),
-        implies(&[ordered, after(atom)], &[last]),
-    ]
+    Row::Plain(if here {
+        Shape::Gains(before(atom), StepAtom::Value { v })
+    } else {
+        Shape::Frame
+    })
 }
 
-/// A cas of a thread on a location.
-#[derive(Clone, Copy)]
-pub struct Cas {
-    pub thread: u8,
-    pub location: u8,
-}
-
-impl Rows<ViewAtom> for Cas {
-    ghost rows = { λ l c i. cas c.thread c.location i };
-
-    ghost fits = { λ s c i. (s.case ≡ None) × IsAtom s.layout i × IsThreadNumber s.layout c.thread };
-
-    fn offer_at<S: ClauseSink>(
-        &self,
-        i: ViewAtom,
-        setting: &Setting,
-        into: &mut S,
-    ) -> Result<(), S::Fault> {
-        match i {
-            ViewAtom::Persist { x, v } => CasPersist { of: *self }.offer_at((x, v), setting, into),
-            ViewAtom::Async { t, x, v } => {
-                CasAsync { of: *self }.offer_at(((t, x), v), setting, into)
-            }
-            _ => frame(i).offer_at((), setting, into),
-        }
-    }
-}
-
-/// What a crash may leave after a cas.
-#[derive(Clone, Copy)]
-struct CasPersist {
-    of: Cas,
-}
-
-impl Rows<(u8, u8)> for CasPersist {
-    ghost rows = { λ l c i. cas_persist (i.0 == c.of.location) c.of.thread i.0 i.1 };
-
-    ghost fits = { λ s c i. (s.case ≡ None) × IsAtom s.layout (Persist i.0 i.1) × IsThreadNumber s.layout c.of.thread };
-
-    fn offer_at<S: ClauseSink>(
-        &self,
-        i: (u8, u8),
-        setting: &Setting,
-        into: &mut S,
-    ) -> Result<(), S::Fault> {
-        let (x, v) = i;
-        let is = after(ViewAtom::Persist { x, v });
-        let pending = before(ViewAtom::Async {
-            t: self.of.thread,
-            x,
-            v,
-        });
-        if x == self.of.location {
-            let stored = gains(is, pending, StepAtom::Value { v });
-            Then(
-                Under(Case::Succeeds, stored),
-                Under(Case::Fails, becomes(is, pending)),
-            )
-            .offer_at((), setting, into)
-        } else {
-            becomes(is, pending).offer_at((), setting, into)
-        }
-    }
-}
-
-/// What a crash may leave after a cas and a fence of a thread.
-#[derive(Clone, Copy)]
-struct CasAsync {
-    of: Cas,
-}
-
-impl Rows<((u8, u8), u8)> for CasAsync {
-    ghost rows = { λ l c i. cas_async (i.0.0 == c.of.thread) (i.0.1 == c.of.location) c.of.thread i.0.0 i.0.1 i.1 };
-
-    ghost fits = { λ s c i. (s.case ≡ None) × IsAtom s.layout (Async i.0.0 i.0.1 i.1) × IsThreadNumber s.layout c.of.thread };
-
-    fn offer_at<S: ClauseSink>(
-        &self,
-        i: ((u8, u8), u8),
-        setting: &Setting,
-        into: &mut S,
-    ) -> Result<(), S::Fault> {
-        let ((t, x), v) = i;
-        let atom = ViewAtom::Async { t, x, v };
-        let is = after(atom);
-        let was = before(atom);
-        let value = StepAtom::Value { v };
-        let committed = before(ViewAtom::Async {
-            t: self.of.thread,
-            x,
-            v,
-        });
-        match (t == self.of.thread, x == self.of.location) {
-            (true, true) => Then(
-                Under(Case::Succeeds, gains(is, was, value)),
-                Under(Case::Fails, frame(atom)),
-            )
-            .offer_at((), setting, into),
-            (true, false) => frame(atom).offer_at((), setting, into),
-            (false, true) => Then(
-                Under(Case::Succeeds, becomes_both_or(is, was, committed, value)),
-                Under(Case::Fails, becomes_both(is, was, committed)),
-            )
-            .offer_at((), setting, into),
-            (false, false) => becomes_both(is, was, committed).offer_at((), setting, into),
-        }
-    }
-}
-
-// `a` is `b` and `c`, or `k`.
-fn becomes_both_or(a: StepAtom, b: StepAtom, c: StepAtom, k: StepAtom) -> [Clause; 4]
-    ensures { result ≡ becomes_both_or a b c k }
+// Of what thread `t` would commit and what the acting one has committed, the greater one counts.
+fn fence_async(own: bool, s: u8, t: u8, x: u8, v: u8) -> Row
+    ensures row { row_of result (Async t x v) ≡ fence_async own s t x v }
+    ensures within { (l : Sizes) → IsThreadNumber l s → x < l.locations → v < l.domain → AreInRow l result }
 {
-    [
-        implies(&[a], &[b, k]),
-        implies(&[a], &[c, k]),
-        implies(&[b, c], &[a]),
-        implies(&[k], &[a]),
-    ]
+    if own {
+        Row::Plain(Shape::Frame)
+    } else {
+        Row::Plain(Shape::Narrows(committed(s, x, v)))
+    }
+}
+
+fn flush_persist(near: bool, t: u8, x: u8, v: u8) -> Row
+    ensures row { row_of result (Persist x v) ≡ flush_persist near t x v }
+    ensures within { (l : Sizes) → IsThreadNumber l t → x < l.locations → v < l.domain → AreInRow l result }
+{
+    if near {
+        Row::Plain(Shape::Flushed(t, x, v))
+    } else {
+        Row::Plain(Shape::Frame)
+    }
+}
+
+fn flush_async(near: bool, x: u8, v: u8) -> Row
+    ensures row { (t : ℕ) → row_of result (Async t x v) ≡ flush_async near t x v }
+    ensures within { (l : Sizes) → x < l.locations → v < l.domain → AreInRow l result }
+{
+    if near {
+        Row::Plain(Shape::Narrows(after(ViewAtom::Persist { x, v })))
+    } else {
+        Row::Plain(Shape::Frame)
+    }
+}
+
+fn flushopt_async(own: bool, near: bool, t: u8, x: u8, v: u8) -> Row
+    ensures row { row_of result (Async t x v) ≡ flushopt_async own near t x v }
+    ensures within { (l : Sizes) → IsThreadNumber l t → x < l.locations → v < l.domain → AreInRow l result }
+{
+    match (own, near) {
+        (true, true) => Row::Plain(Shape::FlushBegun(t, x, v)),
+        (true, false) | (false, _) => Row::Plain(Shape::Frame),
+    }
+}
+
+fn cas_persist(here: bool, s: u8, x: u8, v: u8) -> Row
+    ensures row { row_of result (Persist x v) ≡ cas_persist here s x v }
+    ensures within { (l : Sizes) → IsThreadNumber l s → x < l.locations → v < l.domain → AreInRow l result }
+{
+    let pending = committed(s, x, v);
+    if here {
+        let stored = Shape::Gains(pending, StepAtom::Value { v });
+        Row::Split(stored, Shape::Becomes(pending))
+    } else {
+        Row::Plain(Shape::Becomes(pending))
+    }
+}
+
+fn cas_async(own: bool, here: bool, s: u8, t: u8, x: u8, v: u8) -> Row
+    ensures row { row_of result (Async t x v) ≡ cas_async own here s t x v }
+    ensures within { (l : Sizes) → IsThreadNumber l s → IsThreadNumber l t → x < l.locations → v < l.domain → AreInRow l result }
+{
+    let committed = committed(s, x, v);
+    let value = StepAtom::Value { v };
+    match (own, here) {
+        (true, true) => {
+            let was = before(ViewAtom::Async { t, x, v });
+            Row::Split(Shape::Gains(was, value), Shape::Frame)
+        }
+        (true, false) => Row::Plain(Shape::Frame),
+        (false, true) => {
+            Row::Split(
+                Shape::NarrowsOr(committed, value),
+                Shape::Narrows(committed),
+            )
+        }
+        (false, false) => Row::Plain(Shape::Narrows(committed)),
+    }
 }

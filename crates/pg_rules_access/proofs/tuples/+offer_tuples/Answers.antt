@@ -1,4 +1,4 @@
-use Rattle.std.proofs.Common.{◌≡◌, ◌-◌, ◌<◌, length, take, arith, List, ℕ, subst, ap}
+use Rattle.std.proofs.Common.{◌≡◌, ◌++◌, ◌∷◌, [], ◌-◌, ◌<◌, length, take, arith, List, ℕ, subst, ap}
 use Rattle.std.specs.List.{flat_map, range_with_len}
 use Rattle.std.proofs.lemmas.List.{take_more_set}
 use Rattle.std.proofs.lemmas.List.Elements.{All-same, All-push, All-set}
@@ -16,7 +16,7 @@ use Rattle.pg_rules_access.proofs.tuples.+offer_tuples.Goals as goal
 pub offer-requires : goal.offer-requires
 offer-requires g t c =
     let l = c.args.setting.now.layout in
-    All-same (λ x. IsStepAtom l x.atom) _ _ c.with.ensures
+    All-same (λ x. IsStepAtom l x.atom) c.with.result (c.implies.result ++ (record { atom = c.says-said.result.atom; positive = c.says-said.result.positive } ∷ [])) c.with.ensures
     (said_atoms l (take c.args.count c.args.given.now) c.implies.result c.says-said.result.atom c.says-said.result.positive c.implies.ensures c.requires.atoms c.says-said.ensures.atom)
 
 pub offer_tuples-requires : goal.offer_tuples-requires
