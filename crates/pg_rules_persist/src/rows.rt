@@ -149,6 +149,7 @@ fn fence_async(own: bool, s: u8, t: u8, x: u8, v: u8) -> Row
     }
 }
 
+// A flush leaves what the thread could read where the location stands on the line.
 fn flush_persist(near: bool, t: u8, x: u8, v: u8) -> Row
     ensures row { row_of result (Persist x v) ≡ flush_persist near t x v }
     ensures within { (l : Sizes) → IsThreadNumber l t → x < l.locations → v < l.domain → AreInRow l result }
@@ -160,6 +161,7 @@ fn flush_persist(near: bool, t: u8, x: u8, v: u8) -> Row
     }
 }
 
+// A thread commits no more of the line than the flush leaves.
 fn flush_async(near: bool, x: u8, v: u8) -> Row
     ensures row { (t : ℕ) → row_of result (Async t x v) ≡ flush_async near t x v }
     ensures within { (l : Sizes) → x < l.locations → v < l.domain → AreInRow l result }
@@ -171,6 +173,7 @@ fn flush_async(near: bool, x: u8, v: u8) -> Row
     }
 }
 
+// A thread begins to write the line back: only a fence of its own commits that.
 fn flushopt_async(own: bool, near: bool, t: u8, x: u8, v: u8) -> Row
     ensures row { row_of result (Async t x v) ≡ flushopt_async own near t x v }
     ensures within { (l : Sizes) → IsThreadNumber l t → x < l.locations → v < l.domain → AreInRow l result }
@@ -181,6 +184,7 @@ fn flushopt_async(own: bool, near: bool, t: u8, x: u8, v: u8) -> Row
     }
 }
 
+// A cas commits what its thread has pending, and where it succeeds stores too.
 fn cas_persist(here: bool, s: u8, x: u8, v: u8) -> Row
     ensures row { row_of result (Persist x v) ≡ cas_persist here s x v }
     ensures within { (l : Sizes) → IsThreadNumber l s → x < l.locations → v < l.domain → AreInRow l result }
@@ -194,6 +198,7 @@ fn cas_persist(here: bool, s: u8, x: u8, v: u8) -> Row
     }
 }
 
+// What a thread would commit after a cas of the acting one, which fences, and where it succeeds stores.
 fn cas_async(own: bool, here: bool, s: u8, t: u8, x: u8, v: u8) -> Row
     ensures row { row_of result (Async t x v) ≡ cas_async own here s t x v }
     ensures within { (l : Sizes) → IsThreadNumber l s → IsThreadNumber l t → x < l.locations → v < l.domain → AreInRow l result }
