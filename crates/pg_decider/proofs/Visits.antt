@@ -4,11 +4,12 @@ use Rattle.std.proofs.lemmas.List.{get_or-set_same, length-set, take_more, get_o
 use Rattle.pg_region.specs.Literal.{Literal, same, negated, sign_bit}
 use Rattle.pg_region.specs.Region.{clause_at}
 use Rattle.pg_decider.specs.Assignment.{on, added, Within, AreFalse, IsUnit}
-use Rattle.pg_decider.specs.Chains.{chain, ChainTable, IsFree}
+use Rattle.pg_decider.specs.Reached.{AreWithin}
+use Rattle.pg_decider.specs.Chains.{chain, ChainTable, with_chain, IsFree}
 use Rattle.pg_decider.specs.Trail.{lit, none, TrailTable, reason, added_to}
 use Rattle.pg_decider.specs.Watch.{place, other, Placed, Shape, Grown, IsReason}
 use Rattle.pg_decider.proofs.Literals.{same-refl, same-cases, on-push, added-cases, added-here}
-use Rattle.pg_decider.proofs.Placing.{times-at, placed-pushed, placed-moved}
+use Rattle.pg_decider.proofs.Placing.{times-at, chain-there, placed-pushed, placed-moved}
 use Rattle.pg_decider.proofs.Watching.{others}
 
 pub on-at : (c : List Literal) (i : ℕ) (d : Literal) → i < length c → on c (get_or c i d) ≡ true
@@ -48,6 +49,53 @@ pub second-is : (ws : List Literal) (x y n : ℕ) (s : Literal) → y ≡ other 
 second-is ws x y n s e lt size is =
     let ylt : other x < length ws = subst (λ (m : ℕ). other x < m) (sym size) ((others x).within n (omega arith)) in
     get_or_read ws (other x) s ylt (is ∙ ap (λ (k : ℕ). get_or ws k s) e) none
+
+-- what a visit reads: the clause's other slot, and the chain of the literal that is watched
+pub record Visited (cs : List (List Literal)) (ws : List Literal) (ct : ChainTable) (t : TrailTable) (f : Literal) (x : ℕ) : Type 0 where
+  pub below : other x < length ws
+  pub clause : x / 2 < length cs
+  pub has : on (clause_at cs (x / 2)) (lit ws (other x)) ≡ true
+  pub atom : (lit ws (other x)).atom ≤ t.atoms
+  pub some : 0 < place f
+  pub listed : place f < length ct.lists
+
+pub visited : (cs : List (List Literal)) (ws : List Literal) (ct : ChainTable) (t : TrailTable) (f : Literal) (x : ℕ) → Shape cs ws ct t → Placed cs ws ct.lists (place f) x → x < length ws → lit ws x ≡ f → Visited cs ws ct t f x
+visited cs ws ct t f x sh r lt is =
+    let o = others x in
+    let below : other x < length ws = subst (λ (n : ℕ). other x < n) (sym sh.size) (o.within (length cs) (omega arith)) in
+    let has : on (clause_at cs (x / 2)) (lit ws (other x)) ≡ true = subst (λ (n : ℕ). on (clause_at cs n) (lit ws (other x)) ≡ true) o.half (r.has (other x) below) in
+    let on-f : on (clause_at cs (x / 2)) f ≡ true = subst (λ (l : Literal). on (clause_at cs (x / 2)) l ≡ true) is (r.has x lt) in
+    let w = place-within f t.atoms (sh.over (x / 2) f on-f) in
+    record { below = below; clause = omega (arith, sh.size); has = has; atom = sh.over (x / 2) (lit ws (other x)) has; some = w.0; listed = omega (arith, w.1, sh.lists) }
+
+-- what stays where a slot is put into the chain with the number p
+pub record Put (cs : List (List Literal)) (ws : List Literal) (ct ct' : ChainTable) (u : TrailTable) : Type 0 where
+  pub lists : length ct'.lists ≡ length ct.lists
+  pub slots : ct'.slots ≡ ct.slots
+  pub rest : chain ct'.lists 0 ≡ chain ct.lists 0
+  pub shape : Shape cs ws ct' u
+
+pub put : (cs : List (List Literal)) (ws : List Literal) (ct ct' : ChainTable) (t u : TrailTable) (p : ℕ) (xs : List ℕ) → Shape cs ws ct t → u.atoms ≡ t.atoms → 0 < p → ct' ≡ with_chain ct p xs → Put cs ws ct ct' u
+put cs ws ct ct' t u p xs sh atoms some e =
+    let lists : length ct'.lists ≡ length ct.lists = ap (λ (k : ChainTable). length k.lists) e ∙ length-set ct.lists p xs in
+    let slots : ct'.slots ≡ ct.slots = ap (λ (k : ChainTable). k.slots) e in
+    record {
+      lists = lists;
+      slots = slots;
+      rest = ap (λ (k : ChainTable). chain k.lists 0) e ∙ chain-there ct.lists p 0 xs (λ z. omega arith);
+      shape = record {
+        size = sh.size;
+        over = subst (λ (n : ℕ). AreWithin n cs) (sym atoms) sh.over;
+        lists = omega (arith, sh.lists, lists, atoms);
+        slots = omega (arith, sh.slots, slots);
+        few = sh.few;
+      };
+    }
+
+pub shape-turned : (cs : List (List Literal)) (ws : List Literal) (ct : ChainTable) (t : TrailTable) (x : ℕ) (m : Literal) → Shape cs ws ct t → Shape cs (set ws x m) ct t
+shape-turned cs ws ct t x m sh =
+    let long = length-set ws x m in
+    record { size = long ∙ sh.size; over = sh.over; lists = sh.lists; slots = omega (arith, long, sh.slots); few = omega (arith, long, sh.few) }
 
 pub turned : (cs : List (List Literal)) (ws : List Literal) (ct : ChainTable) (t : TrailTable) (f x : ℕ) (m : Literal) → Shape cs ws ct t → Placed cs ws ct.lists f x → IsFree ct x → x < length ws →
     on (clause_at cs (x / 2)) m ≡ true → Placed cs (set ws x m) (set ct.lists (place m) (x ∷ chain ct.lists (place m))) f (length (set ws x m))

@@ -9,7 +9,7 @@ ghost use Rattle.pg_decider.specs.Reached.{AreWithin};
 ghost use Rattle.pg_decider.specs.Watch.{place, Placed, Watching, Shape, Grown, Attaching};
 
 use crate::trail::Trail;
-use crate::watches::{Watches, place_of};
+use crate::watches::{Watches, add_forced, place_of};
 use pg_region::{ClauseReader, Lit};
 
 impl Watches {
@@ -107,9 +107,5 @@ fn force(trail: &mut Trail, literal: Lit, reason: u32) -> bool
     if trail.is_true(literal) {
         return true;
     }
-    if trail.is_true(literal.negated()) {
-        return false;
-    }
-    trail.add(literal, reason);
-    true
+    add_forced(trail, literal, reason)
 }

@@ -1,10 +1,10 @@
 //! The watches of the clauses.
 
-ghost use Rattle.std.specs.Prelude.{◌≡◌, ℕ, Bool, ◌+◌, ◌-◌, ◌*◌, ◌/◌, ◌<◌, ◌≤◌, true, false, not, ◌&&◌, [], ◌∷◌, ◌++◌, length, take, slice_set, vec_capacity, MatchOption};
+ghost use Rattle.std.specs.Prelude.{◌≡◌, ℕ, Bool, List, ◌+◌, ◌-◌, ◌*◌, ◌/◌, ◌<◌, ◌≤◌, true, false, not, ◌&&◌, [], ◌∷◌, ◌++◌, length, take, slice_set, vec_capacity, MatchOption};
 ghost use Rattle.pg_region.specs.Literal.{Literal, same, negated};
 ghost use Rattle.pg_region.specs.Pieces.{total};
 ghost use Rattle.pg_region.specs.Region.{clause_at};
-ghost use Rattle.pg_decider.specs.Assignment.{on, added, Within, IsClosed, HasConflict};
+ghost use Rattle.pg_decider.specs.Assignment.{on, added, Within, Forces, IsClosed, HasConflict};
 ghost use Rattle.pg_decider.specs.Chains.{chain, with_chain, IsFree, AreChains};
 ghost use Rattle.pg_decider.specs.Trail.{lit};
 ghost use Rattle.pg_decider.specs.Watch.{place, other, Placed, Watching, Watched, Shape, Grown, KeepsWatched, KeepsWatching};
@@ -65,11 +65,7 @@ impl Watches {
             return true;
         }
         self.chains.push(place_of(f), slot);
-        if trail.is_true(second.negated()) {
-            return false;
-        }
-        trail.add(second, slot / 2 + 1);
-        true
+        add_forced(trail, second, slot / 2 + 1)
     }
 
     /// Visits each slot that watches f, which is false. False is the answer where a clause is all false.
@@ -166,4 +162,19 @@ fn serves(literal: Lit, trail: &Trail, second: Lit) -> bool
     ensures { result ≡ (not (same literal second) && not (on trail.now.literals (negated literal))) }
 {
     !literal.is(second) && !trail.is_true(literal.negated())
+}
+
+/// Adds a literal that is not true, and that the clause with the number `reason` forces. False is the answer where it is false.
+pub fn add_forced(trail: &mut Trail, literal: Lit, reason: u32) -> bool
+    requires atom { literal.atom ≤ trail.old.atoms }
+    requires unmet { on trail.old.literals literal ≡ false }
+    ensures grown { (cs : List (List Literal)) (k : ℕ) → k < length cs → reason ≡ k + 1 → Forces (on trail.old.literals) (clause_at cs k) literal → Grown cs trail.old trail.new }
+    ensures added { result ≡ true → on trail.new.literals literal ≡ true }
+    ensures shut { result ≡ false → on trail.new.literals (negated literal) ≡ true }
+{
+    if trail.is_true(literal.negated()) {
+        return false;
+    }
+    trail.add(literal, reason);
+    true
 }
