@@ -270,6 +270,9 @@ says-start cs t w h = record {
     or-none None = refl
     or-none (Some u) = refl
 
+pub says-begin : (cs : List (List Literal)) (t : List Literal) (bs : List Branch) (done : ℕ) (log : List TreeNode) (w : Tree) → bs ≡ [] → done ≡ 0 → log ≡ [] → IsTree cs (on t) w → Says cs t bs done log w
+says-begin cs t bs done log w none zero empty h = rw (none, zero, empty) (says-start cs t w h)
+
 pub node-splits : (cs : List (List Literal)) (v : Literal → Bool) (l : Literal) (n : Node) → (HasConflict cs v → ⊥) → Some l ≡ split_literal v cs → NodeIs cs v n → n ≡ Open l
 node-splits cs v l Shut calm e h = absurd (calm h)
 node-splits cs v l Met calm e h = absurd (some-none l (e ∙ met-none v cs h.1))

@@ -8,14 +8,14 @@ use std::alloc::{AllocError, Global};
 use std::marker::Model;
 
 /// The first slot of a chain, and how many slots it has.
-#[derive(Clone, Copy, Debug, Drop)]
+#[derive(Clone, Copy, Drop)]
 pub struct Start {
     head: u32,
     size: u32,
 }
 
 /// Where each chain begins, and for each slot the next one of its chain. Chains are numbered from 0, and slots too.
-#[derive(Debug, Drop)]
+#[derive(Drop)]
 pub struct Chains {
     starts: Vec<Start>,
     next: Vec<u32>,
@@ -39,7 +39,7 @@ impl Chains {
         ensures { IfOk result (λ c. c ≡ record { lists = replicate lists []; slots = slots }) }
     {
         let starts = no_starts(alloc, lists)?;
-        let next = no_slots(alloc, slots as usize)?;
+        let next = vec![in alloc; 0; slots as usize]?;
         Ok(Chains { starts, next })
     }
 
@@ -112,15 +112,4 @@ fn no_starts(alloc: Global, lists: usize) -> Result<Vec<Start>, AllocError>
         starts.push(Start { head: 0, size: 0 })?;
     }
     Ok(starts)
-}
-
-/// The links of so many slots.
-fn no_slots(alloc: Global, slots: usize) -> Result<Vec<u32>, AllocError>
-    ensures { IfOk result (λ v. length v.items ≡ slots) }
-{
-    let mut next = Vec::with_capacity(alloc, slots)?;
-    'slots: for _ in 0..slots {
-        next.push(0)?;
-    }
-    Ok(next)
 }

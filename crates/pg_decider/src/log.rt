@@ -16,7 +16,7 @@ pub enum TreeNode {
 }
 
 /// The nodes of a tree in preorder, numbered from 1.
-#[derive(Debug, Drop)]
+#[derive(Drop)]
 pub struct TreeLog {
     nodes: Vec<TreeNode>,
 }

@@ -18,7 +18,7 @@ use crate::watches::Watches;
 use pg_region::{ClauseReader, Lit};
 
 /// A child that is still to be visited: where the trail goes back to, and the literal that is added there.
-#[derive(Clone, Copy, Debug, Drop)]
+#[derive(Clone, Copy, Drop)]
 pub struct Branch {
     pub mark: u32,
     pub literal: Lit,

@@ -16,7 +16,7 @@ use crate::watches::Watches;
 use pg_region::{ClauseReader, Lit};
 
 /// How a node ends, once its literals are propagated.
-#[derive(Clone, Copy, Debug, Drop)]
+#[derive(Clone, Copy, Drop)]
 pub enum Node {
     /// A clause is all false.
     Shut,

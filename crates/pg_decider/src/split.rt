@@ -13,7 +13,7 @@ use pg_region::{ClauseReader, Lit};
 
 /// What is known of the split clause after some clauses: its first literal without a value, and, where it has
 /// a false literal, how many literals without a value it has.
-#[derive(Clone, Copy, Debug, Drop)]
+#[derive(Clone, Copy, Drop)]
 pub enum Found {
     /// Each clause had a true literal.
     Nothing,

@@ -14,7 +14,7 @@ use crate::trail::Trail;
 use pg_region::{ClauseReader, Lit};
 
 /// For each clause two slots with the literals that it watches, and for each literal the chain of its slots.
-#[derive(Debug, Drop)]
+#[derive(Drop)]
 pub struct Watches {
     pub slots: Vec<Lit>,
     pub chains: Chains,

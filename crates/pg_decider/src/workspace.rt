@@ -20,7 +20,7 @@ use std::alloc::{AllocError, Global};
 use std::marker::Model;
 
 /// Watches, trail and branches for clauses over atoms from 1 to a greatest one.
-#[derive(Debug, Drop)]
+#[derive(Drop)]
 pub struct Workspace {
     watches: Watches,
     trail: Trail,
@@ -60,14 +60,13 @@ impl Workspace {
         if atoms >= 2147483648 || clauses >= 2147483648 {
             return Err(AllocError);
         }
-        let chains = Chains::make(alloc, 2 * atoms as usize + 3, 2 * clauses)?;
-        let slots = Vec::with_capacity(alloc, 2 * clauses as usize)?;
+        let watches = no_watches(alloc, atoms, clauses)?;
         let trail = Trail::make(alloc, atoms)?;
         let branches = Vec::with_capacity(alloc, atoms as usize + 1)?;
         let needed = vec![in alloc; false; 2 * atoms as usize + 3]?;
         let list = vec![in alloc; 0; atoms as usize + 2]?;
         Ok(Workspace {
-            watches: Watches { slots, chains },
+            watches,
             trail,
             branches,
             needed,
@@ -137,6 +136,17 @@ impl Workspace {
         );
         &self.list[from..]
     }
+}
+
+/// Room for the watches of so many clauses over so many atoms.
+fn no_watches(alloc: Global, atoms: u32, clauses: u32) -> Result<Watches, AllocError>
+    requires { (atoms < 2 ^ 31) × (clauses < 2 ^ 31) }
+    ensures lists { IfOk result (λ w. length w.chains.lists ≡ 2 * atoms + 3) }
+    ensures slots { IfOk result (λ w. (w.chains.slots ≡ 2 * clauses) × (2 * clauses ≤ vec_capacity w.slots)) }
+{
+    let chains = Chains::make(alloc, 2 * atoms as usize + 3, 2 * clauses)?;
+    let slots = Vec::with_capacity(alloc, 2 * clauses as usize)?;
+    Ok(Watches { slots, chains })
 }
 
 /// Begins anew with the first watches, and searches.
