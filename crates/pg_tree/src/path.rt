@@ -10,7 +10,7 @@ use std::alloc::{AllocError, Global};
 use std::marker::Model;
 
 /// The literals in the order in which they were added, and for each atom its value.
-#[derive(Debug, Drop)]
+#[derive(Drop)]
 pub struct Path {
     values: Vec<u8>,
     literals: Vec<Lit>,
@@ -36,10 +36,7 @@ impl Path {
         requires { atoms < 2 ^ 31 }
         ensures { IfOk result (λ p. p ≡ record { atoms = atoms; literals = [] }) }
     {
-        let mut values = Vec::with_capacity(alloc, atoms as usize + 1)?;
-        'atoms: for _ in 0..atoms as usize + 1 {
-            values.push(0)?;
-        }
+        let values = vec![in alloc; 0; atoms as usize + 1]?;
         let literals = Vec::with_capacity(alloc, atoms as usize + 1)?;
         Ok(Path { values, literals })
     }

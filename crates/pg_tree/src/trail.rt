@@ -8,7 +8,7 @@ use std::marker::Model;
 
 /// Room for the way down to any node of a tree over so many atoms: its literals, and the places of those that were split at and
 /// whose second subtree is still to come.
-#[derive(Debug, Drop)]
+#[derive(Drop)]
 pub struct Trail {
     pub(crate) path: Path,
     pub(crate) marks: Vec<u32>,
