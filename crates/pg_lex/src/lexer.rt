@@ -60,23 +60,11 @@ impl<'a> Lexer<'a> {
     }
 
     /// The next token, or the fault that the text has there. The lexer stays where it is.
-    #[tactic(auto, unfolding(crate::specs::Lex::token))]
     pub fn peek(&self) -> Result<Token<'a>, TextFault>
         ensures { MatchResult result (λ t. spec.token self.now ≡ Ok (spec.lexeme t))
             (λ e. spec.token self.now ≡ Err e) }
     {
-        let ahead = self.behind_gap();
-        match scan::piece_at(ahead.rest) {
-            Ok(piece) => Ok(Token {
-                kind: piece.kind,
-                place: ahead.at,
-                text: &ahead.rest[..piece.len],
-            }),
-            Err(kind) => Err(TextFault::At {
-                place: ahead.at,
-                kind,
-            }),
-        }
+        self.fork().next()
     }
 
     /// The next token, or the fault that the text has there. The lexer stands after the token

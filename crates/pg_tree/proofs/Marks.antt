@@ -16,7 +16,7 @@ use Rattle.pg_tree.specs.Fault.{all_false, unit, unit_fault, leaf_fault, may_spl
 use Rattle.pg_tree.specs.Path.{mark, turned, pending, AreMarks}
 use Rattle.pg_tree.specs.Checking.{Checking}
 use Rattle.pg_tree.specs.declared.fault.TreeFault.{TreeFault}
-use Rattle.pg_tree.specs.declared.fault.TreeFault.TheVariants.{BadLiteral, BadClause, NoConflict, TooMuch}
+use Rattle.pg_tree.specs.declared.fault.TreeFault.TheVariants.{BadLiteral, BadClause, NoConflict, TooMuch, EndsEarly}
 use Rattle.pg_tree.proofs.Units.{number-is}
 
 -- ---- marks
@@ -140,6 +140,13 @@ next-line t k lt = drop_more t k no_line lt ∙ ap (λ (i : ℕ). get_or t i no_
 pub line-too-much : (n : ℕ) (cs : List (List Literal)) (xs : List TreeLine) (ls : List Literal) (ms : List ℕ) (last : ℕ) (x : TreeLine) (rest : List TreeLine)
     → Checking n cs xs ls ms false last (x ∷ rest) → tree_fault n cs xs ≡ Some (TooMuch x.number)
 line-too-much n cs xs ls ms last x rest h = h.is
+
+-- after the last line
+pub ends-early : (n : ℕ) (cs : List (List Literal)) (xs : List TreeLine) (ls : List Literal) (ms : List ℕ) (last : ℕ) → Checking n cs xs ls ms true last [] → tree_fault n cs xs ≡ Some (EndsEarly last)
+ends-early n cs xs ls ms last h = h.is
+
+pub ends-well : (n : ℕ) (cs : List (List Literal)) (xs : List TreeLine) (ls : List Literal) (ms : List ℕ) (last : ℕ) → Checking n cs xs ls ms false last [] → tree_fault n cs xs ≡ None
+ends-well n cs xs ls ms last h = h.is
 
 -- a literal that may not be split at
 pub line-bad : (n : ℕ) (cs : List (List Literal)) (xs : List TreeLine) (ls : List Literal) (ms : List ℕ) (last : ℕ) (x : TreeLine) (rest : List TreeLine) (l : Literal)

@@ -18,3 +18,6 @@ returns-clause-valid c =
       | in-None w ↦ rw w.result-is (λ _. (no-fault-valid n cs xs).0 (sym exact ∙ w.in-None.is), λ _. refl)
       | in-Some w ↦ rw w.result-is (λ z. absurd (both_ways false refl z), λ v. absurd (some-none w.in-Some.fault (sym w.in-Some.is ∙ (exact ∙ (no-fault-valid n cs xs).1 v))))
     ]
+
+pub returns-clause-kept : goal.returns-clause-kept
+returns-clause-kept c = rw (← c.trail.view_is) c.find_fault.ensures.atoms
