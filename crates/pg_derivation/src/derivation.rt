@@ -18,7 +18,7 @@ pub enum DocNode<'a> {
 }
 
 /// Trees, for each obligation one, with the numbers of the lines that they stand on. Contracts see a list of trees.
-#[derive(Debug, Drop)]
+#[derive(Drop)]
 pub struct Derivation {
     numbers: Vec<u32>,
     nodes: Vec<Kept>,
@@ -78,7 +78,7 @@ impl Derivation {
 }
 
 /// A tree of a derivation. Contracts see the list of its lines.
-#[derive(Debug, Drop)]
+#[derive(Drop)]
 pub struct TreeView<'a> {
     numbers: &'a [u32],
     nodes: &'a [Kept],

@@ -1,6 +1,6 @@
 //! The text of a derivation.
 
-ghost use Rattle.std.specs.Prelude.{◌≡◌, ◌++◌, IfOk, OnOk};
+ghost use Rattle.std.specs.Prelude.{◌≡◌, [], ◌++◌, IfOk, OnOk};
 ghost use Rattle.pg_derivation.specs.Derivation.{trees_of, nodes_of};
 ghost use Rattle.pg_derivation.specs.Lent.{node_of};
 ghost use Rattle.pg_derivation.specs.Text.{text_of, nodes_text, node_text};
@@ -14,14 +14,23 @@ pub fn print_derivation(alloc: Global, d: &Derivation) -> Result<Vec<u8>, AllocE
     ensures { IfOk result (λ text. text.items ≡ text_of (trees_of d.now)) }
 {
     let mut text = Vec::new(alloc);
-    append_header(&mut text)?;
+    append_text(&mut text, d)?;
+    Ok(text)
+}
+
+/// Writes the spelling of a derivation.
+fn append_text(text: &mut Vec<u8>, d: &Derivation) -> Result<(), AllocError>
+    requires { text.old.items ≡ [] }
+    ensures { OnOk result (text.new.items ≡ text_of (trees_of d.now)) }
+{
+    append_header(text)?;
     let trees = d.trees();
     for i in 0..trees {
-        append_obligation(&mut text, i + 1)?;
-        append_tree(&mut text, &d.tree(i + 1))?;
+        append_obligation(text, i + 1)?;
+        append_tree(text, &d.tree(i + 1))?;
     }
-    append_end(&mut text)?;
-    Ok(text)
+    append_end(text)?;
+    Ok(())
 }
 
 /// Appends the lines of a tree.

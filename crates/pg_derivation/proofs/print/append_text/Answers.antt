@@ -1,7 +1,7 @@
 use Rattle.std.proofs.Common.{arith}
 use Rattle.pg_derivation.specs.Text.{header_text}
 use Rattle.pg_derivation.proofs.Printing.{printed, tree-next}
-use Rattle.pg_derivation.proofs.print.print_derivation.Goals as goal
+use Rattle.pg_derivation.proofs.print.append_text.Goals as goal
 
 pub loop-i-preserved : goal.loop-i-preserved
 loop-i-preserved c =
