@@ -7,6 +7,9 @@ pub mod Names
 pub mod Within
 mod Chains
 mod Levels
+mod Openings
+mod Appended
+pub mod Outcomes
 mod Begins
 mod Sound
 mod Stopped

@@ -95,6 +95,28 @@ operand_by read_atom below opens.Atom place = do
   a ← read_atom
   pure (atom a)
 
+-- what an opening takes: a node unless it is a `(`, and its token, but for an atom
+abbrev pub opened_by : Opening → ℕ → Parser (Opening × ℕ)
+opened_by opens.Negation place = node place >> next >> pure (opens.Negation, place)
+opened_by opens.Bracket place = next >> pure (opens.Bracket, place)
+opened_by (opens.Constant b) place = node place >> next >> pure (opens.Constant b, place)
+opened_by opens.Atom place = pure (opens.Atom, place)
+
+-- what begins here, and at which place
+unfoldable pub opened : Parser (Opening × ℕ)
+opened = do
+  t ← peek
+  opened_by (start t) t.place
+
+-- what follows an opening
+abbrev pub after_opening : {T : Type 0} → Parser T → Option (Parser (Plain T)) → Opening × ℕ → Parser (Plain T)
+after_opening read_atom below (opens.Negation, place) = deeper place below negated
+after_opening read_atom below (opens.Bracket, place) = deeper place below bracketed
+after_opening read_atom below (opens.Constant b, place) = pure (truth b)
+after_opening read_atom below (opens.Atom, place) = do
+  a ← read_atom
+  pure (atom a)
+
 unfoldable pub operand : {T : Type 0} → Parser T → Option (Parser (Plain T)) → Parser (Plain T)
 operand read_atom below = do
   t ← peek

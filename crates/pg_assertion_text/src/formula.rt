@@ -1,10 +1,10 @@
 //! Formulas, read from their tokens. A bracket or a `!` opens a level; nothing else is read by recursion.
 
-ghost use Rattle.std.specs.Prelude.{◌≡◌, option_map, map, IfOk};
+ghost use Rattle.std.specs.Prelude.{◌≡◌, option_map, map, Ok, Err, IfOk, IfErr};
 ghost use Rattle.pg_assertion.specs.Formula.{plain};
 ghost use Rattle.pg_lex.specs.Lex.{lexeme};
 ghost use Rattle.pg_assertion_text.specs.Reading as spec;
-ghost use Rattle.pg_assertion_text.specs.Input.{Reads};
+ghost use Rattle.pg_assertion_text.specs.Input.{Does, Reads};
 
 use crate::atoms::ReadAtom;
 use crate::tokens::{Tokens, is_sign, refused};
@@ -34,6 +34,43 @@ fn start(token: &Token<'_>) -> Opening
         TokenKind::Word if token.text == b"false".as_slice() => Opening::Constant(false),
         _ => Opening::Atom,
     }
+}
+
+/// What begins here, and at which place. Its first token is taken unless it is an atom's, and is a node unless it is a `(`.
+#[tactic(auto, unfolding(crate::specs::Reading::opened))]
+fn opened(tokens: &mut Tokens<'_>) -> Result<(Opening, u32), TextFault>
+    ensures { Does (λ o. o) (spec.opened tokens.old) result tokens.new }
+{
+    let token = tokens.peek()?;
+    let opening = start(&token);
+    match opening {
+        Opening::Negation | Opening::Constant(_) => {
+            tokens.node(token.place)?;
+            let _taken = tokens.next()?;
+            Ok((opening, token.place))
+        }
+        Opening::Bracket => {
+            let _taken = tokens.next()?;
+            Ok((opening, token.place))
+        }
+        Opening::Atom => Ok((opening, token.place)),
+    }
+}
+
+/// What was read, with what was read after it.
+fn beside<A: Drop, B>(first: A, second: Result<B, TextFault>) -> Result<(A, B), TextFault>
+    ensures ok { IfOk result (λ p. (p.0 ≡ first) × (second ≡ Ok p.1)) }
+    ensures err { IfErr result (λ e. second ≡ Err e) }
+{
+    let second = second?;
+    Ok((first, second))
+}
+
+/// The fault of a chain that goes on for too long, of which this was read.
+fn endless<A: Drop>(_read: A) -> TextFault
+    ensures { result ≡ TextFault.At 0 TextKind.TooMany }
+{
+    refused(0, TextKind::TooMany)
 }
 
 /// `true` or `false`.
@@ -76,7 +113,8 @@ pub fn formula<T: ReadAtom>(
     let mut premises = Vec::new(alloc);
     'arrows: for _i in 0..tokens.turns() {
         let last = disjunction(alloc, tokens, names, levels)?;
-        if !tokens.goes_on(Sign::Arrow)? {
+        let (last, more) = beside(last, tokens.goes_on(Sign::Arrow))?;
+        if !more {
             return Ok(implied(alloc, premises, last)?);
         }
         premises.push(last)?;
@@ -97,13 +135,14 @@ fn disjunction<T: ReadAtom>(
 {
     let mut left = conjunction(alloc, tokens, names, levels)?;
     'signs: for _i in 0..tokens.turns() {
-        if !tokens.goes_on(Sign::Or)? {
-            return Ok(left);
+        let (read, more) = beside(left, tokens.goes_on(Sign::Or))?;
+        if !more {
+            return Ok(read);
         }
-        let right = conjunction(alloc, tokens, names, levels)?;
-        left = Formula::or(alloc, left, right)?;
+        let (read, right) = beside(read, conjunction(alloc, tokens, names, levels))?;
+        left = Formula::or(alloc, read, right)?;
     }
-    Err(refused(0, TextKind::TooMany))
+    Err(endless(left))
 }
 
 /// Operands with `&` between them.
@@ -119,13 +158,14 @@ fn conjunction<T: ReadAtom>(
 {
     let mut left = unary(alloc, tokens, names, levels)?;
     'signs: for _i in 0..tokens.turns() {
-        if !tokens.goes_on(Sign::And)? {
-            return Ok(left);
+        let (read, more) = beside(left, tokens.goes_on(Sign::And))?;
+        if !more {
+            return Ok(read);
         }
-        let right = unary(alloc, tokens, names, levels)?;
-        left = Formula::and(alloc, left, right)?;
+        let (read, right) = beside(read, unary(alloc, tokens, names, levels))?;
+        left = Formula::and(alloc, read, right)?;
     }
-    Err(refused(0, TextKind::TooMany))
+    Err(endless(left))
 }
 
 /// What `!` may stand in front of.
@@ -144,7 +184,6 @@ fn unary<T: ReadAtom>(
 
 /// The same, with how many levels there are below it, if there may be one.
 #[cycle(formula)]
-#[tactic(auto, unfolding(crate::specs::Reading::operand))]
 fn operand<T: ReadAtom>(
     alloc: Global,
     tokens: &mut Tokens<'_>,
@@ -153,22 +192,11 @@ fn operand<T: ReadAtom>(
 ) -> Result<Formula<T>, TextFault>
     ensures { Reads plain (spec.operand (T.read names.now) (option_map (spec.unary (T.read names.now)) below) tokens.old) result tokens.new }
 {
-    let token = tokens.peek()?;
-    match start(&token) {
-        Opening::Negation => {
-            tokens.node(token.place)?;
-            let _taken = tokens.next()?;
-            negation(alloc, tokens, names, below, token.place)
-        }
-        Opening::Bracket => {
-            let _taken = tokens.next()?;
-            bracketed(alloc, tokens, names, below, token.place)
-        }
-        Opening::Constant(constant) => {
-            tokens.node(token.place)?;
-            let _taken = tokens.next()?;
-            Ok(truth(constant))
-        }
+    let (opening, place) = opened(tokens)?;
+    match opening {
+        Opening::Negation => negation(alloc, tokens, names, below, place),
+        Opening::Bracket => bracketed(alloc, tokens, names, below, place),
+        Opening::Constant(constant) => Ok(truth(constant)),
         Opening::Atom => Ok(Formula::Atom(T::read(tokens, names)?)),
     }
 }
@@ -208,6 +236,5 @@ fn bracketed<T: ReadAtom>(
         None => return Err(refused(place, TextKind::TooDeep)),
     };
     let f = formula(alloc, tokens, names, levels)?;
-    tokens.expect(Sign::Close)?;
-    Ok(f)
+    tokens.expect(Sign::Close).and(Ok(f))
 }

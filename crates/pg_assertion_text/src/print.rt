@@ -155,40 +155,14 @@ impl PrintAtom for ViewAtom {
     fn print(&self, names: &Names, into: &mut Vec<u8>) -> Result<(), AllocError> {
         match *self {
             ViewAtom::Scalar { r, k } => equation(names.scalar_name(r), u32::from(k), into),
-            ViewAtom::Last { x, v } => {
-                into.extend_from_slice(b"L(")?;
-                cell(x, v, names, into)
-            }
-            ViewAtom::Read { t, x, v } => {
-                into.extend_from_slice(b"R(")?;
-                thread(t, into)?;
-                cell(x, v, names, into)
-            }
-            ViewAtom::Persist { x, v } => {
-                into.extend_from_slice(b"P(")?;
-                cell(x, v, names, into)
-            }
-            ViewAtom::Async { t, x, v } => {
-                into.extend_from_slice(b"A(")?;
-                thread(t, into)?;
-                cell(x, v, names, into)
-            }
-            ViewAtom::Then { t, x, v, y, w } => {
-                into.extend_from_slice(b"C(")?;
-                two_reads(t, (x, v), (y, w), names, into)
-            }
-            ViewAtom::Newest { t, x } => {
-                into.extend_from_slice(b"N(")?;
-                place(t, x, names, into)
-            }
-            ViewAtom::Ordered { t, x } => {
-                into.extend_from_slice(b"O(")?;
-                place(t, x, names, into)
-            }
-            ViewAtom::Fenced { t, x } => {
-                into.extend_from_slice(b"F(")?;
-                place(t, x, names, into)
-            }
+            ViewAtom::Last { x, v } => value(b"L(", x, v, names, into),
+            ViewAtom::Read { t, x, v } => read(b"R(", t, x, v, names, into),
+            ViewAtom::Persist { x, v } => value(b"P(", x, v, names, into),
+            ViewAtom::Async { t, x, v } => read(b"A(", t, x, v, names, into),
+            ViewAtom::Then { t, x, v, y, w } => two_reads(b"C(", t, (x, v), (y, w), names, into),
+            ViewAtom::Newest { t, x } => place(b"N(", t, x, names, into),
+            ViewAtom::Ordered { t, x } => place(b"O(", t, x, names, into),
+            ViewAtom::Fenced { t, x } => place(b"F(", t, x, names, into),
         }
     }
 }
@@ -229,18 +203,52 @@ fn cell(x: u8, v: u8, names: &Names, into: &mut Vec<u8>) -> Result<(), AllocErro
     into.extend_from_slice(b")")
 }
 
-/// Appends `t,x)`.
-fn place(t: u8, x: u8, names: &Names, into: &mut Vec<u8>) -> Result<(), AllocError>
+/// Appends the letter and `(x,v)`.
+fn value(opening: &[u8], x: u8, v: u8, names: &Names, into: &mut Vec<u8>) -> Result<(), AllocError>
     requires { x < length names.now.locations }
-    ensures { OnOk result (into.new.items ≡ into.old.items ++ spec.arguments (decimal t ∷ spec.location_name names.now x ∷ [])) }
+    ensures { OnOk result (into.new.items ≡ into.old.items ++ (opening.now ++ spec.arguments (spec.location_name names.now x ∷ decimal v ∷ []))) }
 {
-    thread(t, into)?;
+    into.extend_from_slice(opening)?;
+    cell(x, v, names, into)
+}
+
+/// Appends the letter and `(t,`.
+fn of_thread(opening: &[u8], t: u8, into: &mut Vec<u8>) -> Result<(), AllocError>
+    ensures { OnOk result (into.new.items ≡ into.old.items ++ (opening.now ++ (decimal t ++ codes ","))) }
+{
+    into.extend_from_slice(opening)?;
+    thread(t, into)
+}
+
+/// Appends the letter and `(t,x,v)`.
+fn read(
+    opening: &[u8],
+    t: u8,
+    x: u8,
+    v: u8,
+    names: &Names,
+    into: &mut Vec<u8>,
+) -> Result<(), AllocError>
+    requires { x < length names.now.locations }
+    ensures { OnOk result (into.new.items ≡ into.old.items ++ (opening.now ++ spec.arguments (decimal t ∷ spec.location_name names.now x ∷ decimal v ∷ []))) }
+{
+    of_thread(opening, t, into)?;
+    cell(x, v, names, into)
+}
+
+/// Appends the letter and `(t,x)`.
+fn place(opening: &[u8], t: u8, x: u8, names: &Names, into: &mut Vec<u8>) -> Result<(), AllocError>
+    requires { x < length names.now.locations }
+    ensures { OnOk result (into.new.items ≡ into.old.items ++ (opening.now ++ spec.arguments (decimal t ∷ spec.location_name names.now x ∷ []))) }
+{
+    of_thread(opening, t, into)?;
     into.extend_from_slice(names.location_name(x).as_bytes())?;
     into.extend_from_slice(b")")
 }
 
-/// Appends `t,x,v,y,w)`.
+/// Appends the letter and `(t,x,v,y,w)`.
 fn two_reads(
+    opening: &[u8],
     t: u8,
     first: (u8, u8),
     second: (u8, u8),
@@ -249,9 +257,9 @@ fn two_reads(
 ) -> Result<(), AllocError>
     requires first { first.0 < length names.now.locations }
     requires second { second.0 < length names.now.locations }
-    ensures { OnOk result (into.new.items ≡ into.old.items ++ spec.arguments (decimal t ∷ spec.location_name names.now first.0 ∷ decimal first.1 ∷ spec.location_name names.now second.0 ∷ decimal second.1 ∷ [])) }
+    ensures { OnOk result (into.new.items ≡ into.old.items ++ (opening.now ++ spec.arguments (decimal t ∷ spec.location_name names.now first.0 ∷ decimal first.1 ∷ spec.location_name names.now second.0 ∷ decimal second.1 ∷ []))) }
 {
-    thread(t, into)?;
+    of_thread(opening, t, into)?;
     into.extend_from_slice(names.location_name(first.0).as_bytes())?;
     into.extend_from_slice(b",")?;
     thread(first.1, into)?;
