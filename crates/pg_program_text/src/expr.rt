@@ -6,6 +6,7 @@ ghost use Rattle.pg_assertion_text.specs.Words.{IsText};
 ghost use Rattle.pg_lex.specs.Lex.{lexeme};
 ghost use Rattle.pg_program_text.specs.Expr as spec;
 
+use crate::beside::{beside, endless};
 use pg_assertion_text::Tokens;
 use pg_assertion_text::tokens::{named, refused, unexpected};
 use pg_lex::{Sign, TextFault, TextKind, Token, TokenKind};
@@ -66,14 +67,15 @@ pub fn sum(
 {
     let mut left = product(alloc, tokens, names, levels)?;
     'signs: for _i in 0..tokens.turns() {
-        let sign = match plus_or_minus(tokens)? {
+        let (read, sign) = beside(left, plus_or_minus(tokens))?;
+        let sign = match sign {
             Some(sign) => sign,
-            None => return Ok(left),
+            None => return Ok(read),
         };
-        let right = product(alloc, tokens, names, levels)?;
-        left = joined(alloc, sign, left, right)?;
+        let (read, right) = beside(read, product(alloc, tokens, names, levels))?;
+        left = joined(alloc, sign, read, right)?;
     }
-    Err(refused(0, TextKind::TooMany))
+    Err(endless(left))
 }
 
 /// Factors with `*` between them.
@@ -89,14 +91,15 @@ fn product(
 {
     let mut left = factor(alloc, tokens, names, levels)?;
     'signs: for _i in 0..tokens.turns() {
-        let sign = match times(tokens)? {
+        let (read, sign) = beside(left, times(tokens))?;
+        let sign = match sign {
             Some(sign) => sign,
-            None => return Ok(left),
+            None => return Ok(read),
         };
-        let right = factor(alloc, tokens, names, levels)?;
-        left = joined(alloc, sign, left, right)?;
+        let (read, right) = beside(read, factor(alloc, tokens, names, levels))?;
+        left = joined(alloc, sign, read, right)?;
     }
-    Err(refused(0, TextKind::TooMany))
+    Err(endless(left))
 }
 
 /// A number, a scalar, or an expression in brackets.
@@ -152,8 +155,7 @@ fn bracketed(
         None => return Err(refused(place, TextKind::TooDeep)),
     };
     let inner = sum(alloc, tokens, names, levels)?;
-    tokens.expect(Sign::Close)?;
-    Ok(inner)
+    tokens.expect(Sign::Close).and(Ok(inner))
 }
 
 /// The scalar that a token names.

@@ -11,6 +11,7 @@ ghost use Rattle.pg_program_text.specs.Limits.{most_assignments};
 ghost use Rattle.pg_program_text.specs.Limits.{text_limits};
 ghost use Rattle.pg_program_text.specs.Stmt as spec;
 
+use crate::beside::beside;
 use crate::expr::sum;
 use crate::keyword::{Keyword, keyword_at};
 use pg_assertion::{Formula, RawAtom};
@@ -80,8 +81,7 @@ pub fn note(
 {
     opened(tokens)?;
     let f = formula(alloc, tokens, names)?;
-    tokens.expect(Sign::CloseSquare)?;
-    Ok(f)
+    tokens.expect(Sign::CloseSquare).and(Ok(f))
 }
 
 /// Whether a token is `=` or `!=`, and a test is for equality.
@@ -112,8 +112,8 @@ pub fn test(alloc: Global, tokens: &mut Tokens<'_>, names: &Names) -> Result<Con
     ensures { Reads (λ c. c) (spec.a_test text_limits names.now tokens.old) result tokens.new }
 {
     let left = expression(alloc, tokens, names)?;
-    let equal = test_sign(tokens)?;
-    let right = expression(alloc, tokens, names)?;
+    let (left, equal) = beside(left, test_sign(tokens))?;
+    let (left, right) = beside(left, expression(alloc, tokens, names))?;
     Ok(Cond { left, right, equal })
 }
 
@@ -132,8 +132,7 @@ fn last_operand(alloc: Global, tokens: &mut Tokens<'_>, names: &Names) -> Result
     ensures { Reads (λ a. a) (spec.last_operand text_limits names.now tokens.old) result tokens.new }
 {
     let expr = operand(alloc, tokens, names)?;
-    tokens.expect(Sign::Close)?;
-    Ok(expr)
+    tokens.expect(Sign::Close).and(Ok(expr))
 }
 
 /// `( x , expected , desired )`, after `r := cas`.
@@ -144,7 +143,7 @@ fn swap(alloc: Global, tokens: &mut Tokens<'_>, names: &Names, target: u8) -> Re
     tokens.expect(Sign::Open)?;
     let location = tokens.location(names)?;
     let expected = operand(alloc, tokens, names)?;
-    let desired = last_operand(alloc, tokens, names)?;
+    let (expected, desired) = beside(expected, last_operand(alloc, tokens, names))?;
     Ok(Act::Cas {
         target,
         location,

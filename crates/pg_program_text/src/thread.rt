@@ -13,6 +13,7 @@ ghost use Rattle.pg_program_text.specs.Text.{lines, noted, ReadsAt, Answers};
 ghost use Rattle.pg_program_text.specs.Grammar.{IsThreadText};
 ghost use Rattle.pg_program_text.specs.FirstFaults.{BlamesToken};
 
+use crate::beside::beside;
 use crate::keyword::{Keyword, keyword_at};
 use crate::stmt::{act, bracket, note, test};
 use pg_assertion::{Formula, RawAtom};
@@ -93,8 +94,7 @@ fn ending(
     ensures { Reads (λ b. b) (spec.ending text_limits names.now tokens.old) result tokens.new }
 {
     let aux = bracket(alloc, tokens, names)?;
-    tokens.expect(Sign::Semicolon)?;
-    Ok(aux)
+    tokens.expect(Sign::Semicolon).and(Ok(aux))
 }
 
 /// A statement that is no branch and no loop.
@@ -103,7 +103,7 @@ fn simple(alloc: Global, tokens: &mut Tokens<'_>, names: &Names) -> Result<Noted
     ensures { Reads noted (spec.simple text_limits names.now tokens.old) result tokens.new }
 {
     let act = act(alloc, tokens, names)?;
-    let aux = ending(alloc, tokens, names)?;
+    let (act, aux) = beside(act, ending(alloc, tokens, names))?;
     Ok(NotedStmt {
         stmt: Stmt { act, aux },
         notes: Vec::new(alloc),
@@ -188,8 +188,9 @@ fn branch(
     ensures { Reads noted (spec.branch text_limits names.now (option_map (spec.statement text_limits names.now) below) tokens.old) result tokens.new }
 {
     let test = test(alloc, tokens, names)?;
-    let yes = block(alloc, tokens, names, below)?;
-    let no = else_part(alloc, tokens, names, below)?;
+    let (test, yes) = beside(test, block(alloc, tokens, names, below))?;
+    let (read, no) = beside((test, yes), else_part(alloc, tokens, names, below))?;
+    let (test, yes) = read;
     Ok(joined(alloc, test, yes, no)?)
 }
 
@@ -205,7 +206,7 @@ fn repeat(
     ensures { Reads noted (spec.repeat text_limits names.now (option_map (spec.statement text_limits names.now) below) tokens.old) result tokens.new }
 {
     let test = test(alloc, tokens, names)?;
-    let body = block(alloc, tokens, names, below)?;
+    let (test, body) = beside(test, block(alloc, tokens, names, below))?;
     let act = Act::While {
         test,
         body: Items::from_vec(body.stmts),
