@@ -2,19 +2,16 @@
 use Rattle.std.proofs.Common.{◌≡◌, ℕ, Bool, true, false, Ok, Err, List, ◌++◌, ap, ◌∙◌}
 use Rattle.std.specs.Prelude.{Result, OnOk, codes, is_ok, if◌then◌else◌}
 use Rattle.std.proofs.lemmas.List.{append_assoc}
-use Rattle.pg_assertion.specs.Formula.{Plain, neg, both, either, implies}
+use Rattle.pg_assertion.specs.Formula.{Plain, both, either, implies}
 use Rattle.pg_assertion_text.specs.Grammar.{unary, conj, disj}
 use Rattle.pg_assertion_text.specs.Spelling.{is_loose, in_brackets, spell}
 
+-- what a part appends, by the result of its call
 pub appended : {T E : Type 0} (r : Result T E) (new old part : List ℕ) → new ≡ (if is_ok r then old ++ part else old) → OnOk r (new ≡ old ++ part)
 appended (Ok u) new old part h = h
 appended (Err e) new old part h = tt
 
--- one part behind another
-two_parts : {T E : Type 0} (r : Result T E) (old one two a b : List ℕ) → one ≡ old ++ a → OnOk r (two ≡ one ++ b) → OnOk r (two ≡ old ++ (a ++ b))
-two_parts (Ok u) old one two a b first second = second ∙ ap (λ x. x ++ b) first ∙ append_assoc old a b
-two_parts (Err e) old one two a b first second = tt
-
+-- three parts, one behind another
 three_parts : {T E : Type 0} (r : Result T E) (old one two three a b c : List ℕ) → one ≡ old ++ a → two ≡ one ++ b → OnOk r (three ≡ two ++ c)
     → OnOk r (three ≡ old ++ (a ++ (b ++ c)))
 three_parts (Ok u) old one two three a b c first second third =
@@ -33,11 +30,6 @@ without_brackets r old new text true is appended = absurd (cc)
 without_brackets r old new text false is appended = appended
 
 module _ {A : Type 0} (of_atom : A → List ℕ) {T E : Type 0} (r : Result T E) where
-  pub spells_neg : (whole f : Plain A) (old one two : List ℕ) → whole ≡ neg f
-      → one ≡ old ++ codes "!" → OnOk r (two ≡ one ++ in_brackets (is_loose unary f) (spell of_atom f)) → OnOk r (two ≡ old ++ spell of_atom whole)
-  unfolding spell
-  spells_neg whole f old one two is first second = rw is (two_parts r old one two (codes "!") (in_brackets (is_loose unary f) (spell of_atom f)) first second)
-
   pub spells_both : (whole f g : Plain A) (old one two three : List ℕ) → whole ≡ both f g
       → one ≡ old ++ in_brackets (is_loose conj f) (spell of_atom f) → two ≡ one ++ codes " & "
       → OnOk r (three ≡ two ++ in_brackets (is_loose unary g) (spell of_atom g)) → OnOk r (three ≡ old ++ spell of_atom whole)

@@ -4,14 +4,8 @@ use Rattle.pg_assertion.specs.Formula.{plain}
 use Rattle.std.specs.Prelude.{codes}
 use Rattle.pg_assertion_text.specs.Parts.{rule}
 use Rattle.pg_assertion_text.specs.Spelling.{is_loose, spell}
-use Rattle.pg_assertion_text.proofs.Appended.{appended, in_its_brackets, without_brackets, spells_neg, spells_both, spells_either, spells_implies}
+use Rattle.pg_assertion_text.proofs.Appended.{appended, in_its_brackets, without_brackets, spells_both, spells_either, spells_implies}
 use Rattle.pg_assertion_text.proofs.print.+print.Goals as goal
-
-pub spell-returns-in_ok-extend_from_slice-in-Not : goal.spell-returns-in_ok-extend_from_slice-in-Not
-spell-returns-in_ok-extend_from_slice-in-Not g t c =
-    spells_neg (g.T.PrintAtom.spelled c.args.names.now) c.spell_part.result (plain c.args.f.now) (plain c.get.result.now)
-    c.args.into.now.items c.extend_from_slice-in-Not.new.self.items c.spell_part.new.into.items
-    (search (rules, the_lemmas)) c.in_ok-extend_from_slice-in-Not.ensures.items c.spell_part.ensures
 
 pub spell-returns-in_ok-extend_from_slice-in-And : goal.spell-returns-in_ok-extend_from_slice-in-And
 spell-returns-in_ok-extend_from_slice-in-And g t c =
