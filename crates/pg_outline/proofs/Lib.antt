@@ -1,4 +1,5 @@
 mod Rows
+mod Numbers
 mod CrashSize
 pub mod Parts
 pub mod Speaks

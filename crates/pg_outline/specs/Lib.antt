@@ -3,6 +3,7 @@ pub mod Limits
 pub mod Outline
 pub mod Speaks
 pub mod Fault
+pub mod Numbers
 pub mod Made
 pub mod Parts
 pub mod Erasure

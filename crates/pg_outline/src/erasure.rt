@@ -3,8 +3,9 @@
 ghost use Rattle.std.specs.Prelude.{◌≡◌, ◌<◌, length, map, IfOk, OnOk, None, false};
 ghost use Rattle.pg_program.specs.NameTable.{find, is_full, with_name, MayJoin, IsNameTable};
 ghost use Rattle.pg_program.specs.Program.{IsProgram};
-ghost use Rattle.pg_outline.specs.Erasure.{erased, erased_names, erased_stmt, erased_act, moved, moved_test, new_place, DeclaresAgain};
+ghost use Rattle.pg_outline.specs.Erasure.{erased, erased_names, erased_stmt, erased_act, moved, moved_test, new_place, first_locations, DeclaresAgain};
 
+use crate::both::both;
 use crate::outline::Outline;
 use pg_program::{Act, Cond, DeclareFault, Expr, NameKind, Names, Program, ProgramFault, Stmt};
 use sqlite_items::{Boxed, Items};
@@ -23,7 +24,7 @@ fn erased_program(alloc: Global, program: &Program) -> Result<Program, AllocErro
     ensures { IfOk result (λ p. p ≡ erased program.now) }
 {
     let names = erased_names(alloc, program.names())?;
-    let threads = erased_threads(alloc, program)?;
+    let (names, threads) = both(names, erased_threads(alloc, program))?;
     built(alloc, names, threads)
 }
 
@@ -48,20 +49,45 @@ fn erased_names(alloc: Global, names: &Names) -> Result<Names, AllocError>
     ensures { IfOk result (λ n. n ≡ erased_names names.now) }
 {
     let mut kept = Names::make(alloc, names.domain(), names.version());
+    let declared = declare_kept(&mut kept, names);
+    let (kept, ()) = both(kept, declared)?;
+    Ok(kept)
+}
+
+/// Declares the names that stay: all locations, and then the registers.
+fn declare_kept(kept: &mut Names, names: &Names) -> Result<(), AllocError>
+    requires { kept.old ≡ first_locations 0 names.now }
+    ensures { OnOk result (kept.new ≡ erased_names names.now) }
+{
+    declare_locations(kept, names)?;
+    declare_registers(kept, names)
+}
+
+/// Declares the locations, each on its line.
+fn declare_locations(kept: &mut Names, names: &Names) -> Result<(), AllocError>
+    requires { kept.old ≡ first_locations 0 names.now }
+    ensures declared { OnOk result (kept.new ≡ first_locations (length names.now.locations) names.now) }
+    ensures names { IsNameTable names.now }
+{
     for x in 0..names.locations() {
         let kind = location_kind(names, x);
-        declare(&mut kept, names.location_name(x), kind)?;
+        declare(kept, names.location_name(x), kind)?;
     }
+    Ok(())
+}
+
+/// Declares the registers behind the locations.
+fn declare_registers(kept: &mut Names, names: &Names) -> Result<(), AllocError>
+    requires names { IsNameTable names.now }
+    requires locations { kept.old ≡ first_locations (length names.now.locations) names.now }
+    ensures { OnOk result (kept.new ≡ erased_names names.now) }
+{
     for r in 0..names.scalars() {
         if let NameKind::Register { owner } = names.kind(r) {
-            declare(
-                &mut kept,
-                names.scalar_name(r),
-                NameKind::Register { owner },
-            )?;
+            declare(kept, names.scalar_name(r), NameKind::Register { owner })?;
         }
     }
-    Ok(kept)
+    Ok(())
 }
 
 /// What a location is declared as: it stands on the line of the one before it, or begins a line.
@@ -117,15 +143,18 @@ fn moved(alloc: Global, names: &Names, e: &Expr) -> Result<Expr, AllocError>
         Expr::Scalar(r) => Expr::Scalar(new_place(names, *r)),
         Expr::Add(a, b) => {
             let a = moved_operand(alloc, names, a.get())?;
-            Expr::Add(a, moved_operand(alloc, names, b.get())?)
+            let (a, b) = both(a, moved_operand(alloc, names, b.get()))?;
+            Expr::Add(a, b)
         }
         Expr::Sub(a, b) => {
             let a = moved_operand(alloc, names, a.get())?;
-            Expr::Sub(a, moved_operand(alloc, names, b.get())?)
+            let (a, b) = both(a, moved_operand(alloc, names, b.get()))?;
+            Expr::Sub(a, b)
         }
         Expr::Mul(a, b) => {
             let a = moved_operand(alloc, names, a.get())?;
-            Expr::Mul(a, moved_operand(alloc, names, b.get())?)
+            let (a, b) = both(a, moved_operand(alloc, names, b.get()))?;
+            Expr::Mul(a, b)
         }
     })
 }
@@ -143,7 +172,7 @@ fn moved_test(alloc: Global, names: &Names, test: &Cond) -> Result<Cond, AllocEr
     ensures { IfOk result (λ c. c ≡ moved_test (new_place names.now) test.now) }
 {
     let left = moved(alloc, names, &test.left)?;
-    let right = moved(alloc, names, &test.right)?;
+    let (left, right) = both(left, moved(alloc, names, &test.right))?;
     Ok(Cond {
         left,
         right,
@@ -217,7 +246,7 @@ fn moved_while(
 ) -> Result<Act, AllocError>
     ensures { IfOk result (λ a. a ≡ Act.While (moved_test (new_place names.now) test.now) body.items) }
 {
-    let test = moved_test(alloc, names, test)?;
+    let (body, test) = both(body, moved_test(alloc, names, test))?;
     Ok(Act::While {
         test,
         body: Items::from_vec(body),

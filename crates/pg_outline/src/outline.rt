@@ -69,7 +69,7 @@ impl Outline {
         ensures { let draft : Draft = record { program = program; pre = plain pre; crash = plain crash; notes = map (λ t. map plain t.items) notes.items } in
             Makes draft_of draft (first_fault draft) result }
     {
-        let parts = viewed_parts(alloc, &program, &pre, &crash, &notes)?;
+        let parts = parts_of(alloc, &program, pre, &crash, notes)?;
         Ok(Outline {
             program,
             pre: parts.pre,
@@ -140,7 +140,22 @@ struct Parts {
     notes: Vec<Vec<Formula<ViewAtom>>>,
 }
 
-/// The parts of an outline, or the first fault of its formulas.
+/// The parts of an outline, or the first fault of its formulas. Those of the text are let go.
+fn parts_of(
+    alloc: Global,
+    program: &Program,
+    pre: Formula<RawAtom>,
+    crash: &Formula<CrashAtom>,
+    notes: Vec<Vec<Formula<RawAtom>>>,
+) -> Result<Parts, OutlineFault>
+    requires { IsSmall (CrashDeclared program.now.names) (plain crash.now) }
+    ensures { let draft : Draft = record { program = program.now; pre = plain pre; crash = plain crash.now; notes = map (λ t. map plain t.items) notes.items } in
+        AreParts draft result }
+{
+    viewed_parts(alloc, program, &pre, crash, &notes)
+}
+
+/// The same of formulas that are lent.
 fn viewed_parts(
     alloc: Global,
     program: &Program,

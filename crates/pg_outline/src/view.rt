@@ -1,16 +1,19 @@
 //! The formulas of a text, made formulas over a program's values and threads.
 
-ghost use Rattle.std.specs.Prelude.{◌≡◌, ◌≤◌, length, map, IfOk};
+ghost use Rattle.std.specs.Prelude.{◌≡◌, ◌≤◌, length, map, unwrap_or, IfOk};
 ghost use Rattle.pg_program.specs.Limits.{largest_domain_2, most_threads};
 ghost use Rattle.pg_assertion.specs.Formula.{plain, with_atoms, AllAtoms};
 ghost use Rattle.pg_assertion.specs.Atom.{raw_of, RawDeclared};
 ghost use Rattle.pg_outline.specs.Fault.{value_fault, thread_fault, atom_fault, crash_atom_fault, in_formula, first_in, assertion_fault};
+ghost use Rattle.pg_outline.specs.Numbers.{numbers_of, renumbered, fault_if};
 ghost use Rattle.pg_outline.specs.Made.{Makes, Checks};
 ghost use Rattle.pg_outline.specs.Speaks.{IsOver};
 
+use crate::both::both;
 use crate::fault::OutlineFault;
 use pg_assertion::{CrashAtom, Formula, RawAtom, ViewAtom};
 use pg_program::Program;
+use sqlite_items::Boxed;
 use std::alloc::Global;
 
 /// What atoms may speak of: the values below the size of the domain, and the threads from 1.
@@ -54,56 +57,84 @@ impl Scope {
             Err(OutlineFault::UnknownThread(t))
         }
     }
+
+    fn value_if(self, v: Option<u32>) -> Result<u8, OutlineFault>
+        requires { self.domain ≤ largest_domain_2 }
+        ensures { Makes (λ k. k) (unwrap_or v 0) (fault_if (value_fault self.domain) v) result }
+    {
+        match v {
+            Some(v) => self.value(v),
+            None => Ok(0),
+        }
+    }
+
+    fn thread_if(self, t: Option<u32>) -> Result<u8, OutlineFault>
+        requires { self.threads ≤ most_threads }
+        ensures { Makes (λ k. k) (unwrap_or t 0) (fault_if (thread_fault self.threads) t) result }
+    {
+        match t {
+            Some(t) => self.thread(t),
+            None => Ok(0),
+        }
+    }
 }
 
-/// An atom of an assertion.
+/// The numbers of an atom that may have a fault, from left to right: its thread and its values.
+#[derive(Clone, Copy)]
+struct Numbers {
+    thread: Option<u32>,
+    value: Option<u32>,
+    other: Option<u32>,
+}
+
+/// An atom of an assertion. A number that it lacks is 0.
 fn viewed_atom(scope: Scope, atom: RawAtom) -> Result<ViewAtom, OutlineFault>
     requires { (scope.domain ≤ largest_domain_2) × (scope.threads ≤ most_threads) }
     ensures { Makes raw_of atom (atom_fault scope.domain scope.threads atom) result }
 {
-    Ok(match atom {
-        RawAtom::Scalar { r, k } => ViewAtom::Scalar {
-            r,
-            k: scope.value(k)?,
-        },
-        RawAtom::Last { x, v } => ViewAtom::Last {
-            x,
-            v: scope.value(v)?,
-        },
-        RawAtom::Read { t, x, v } => ViewAtom::Read {
-            t: scope.thread(t)?,
-            x,
-            v: scope.value(v)?,
-        },
-        RawAtom::Persist { x, v } => ViewAtom::Persist {
-            x,
-            v: scope.value(v)?,
-        },
-        RawAtom::Async { t, x, v } => ViewAtom::Async {
-            t: scope.thread(t)?,
-            x,
-            v: scope.value(v)?,
-        },
-        RawAtom::Then { t, x, v, y, w } => ViewAtom::Then {
-            t: scope.thread(t)?,
-            x,
-            v: scope.value(v)?,
-            y,
-            w: scope.value(w)?,
-        },
-        RawAtom::Newest { t, x } => ViewAtom::Newest {
-            t: scope.thread(t)?,
-            x,
-        },
-        RawAtom::Ordered { t, x } => ViewAtom::Ordered {
-            t: scope.thread(t)?,
-            x,
-        },
-        RawAtom::Fenced { t, x } => ViewAtom::Fenced {
-            t: scope.thread(t)?,
-            x,
-        },
-    })
+    let numbers = numbers_of(atom);
+    let t = scope.thread_if(numbers.thread)?;
+    let v = scope.value_if(numbers.value)?;
+    let w = scope.value_if(numbers.other)?;
+    Ok(placed(atom, t, v, w))
+}
+
+fn numbers_of(atom: RawAtom) -> Numbers
+    ensures { result ≡ numbers_of atom }
+{
+    let (thread, value, other) = match atom {
+        RawAtom::Scalar { k, .. } => (None, Some(k), None),
+        RawAtom::Last { v, .. } => (None, Some(v), None),
+        RawAtom::Read { t, v, .. } => (Some(t), Some(v), None),
+        RawAtom::Persist { v, .. } => (None, Some(v), None),
+        RawAtom::Async { t, v, .. } => (Some(t), Some(v), None),
+        RawAtom::Then { t, v, w, .. } => (Some(t), Some(v), Some(w)),
+        RawAtom::Newest { t, .. } => (Some(t), None, None),
+        RawAtom::Ordered { t, .. } => (Some(t), None, None),
+        RawAtom::Fenced { t, .. } => (Some(t), None, None),
+    };
+    Numbers {
+        thread,
+        value,
+        other,
+    }
+}
+
+/// The atom with these numbers, of which each kind takes those that it has.
+fn placed(atom: RawAtom, t: u8, v: u8, w: u8) -> ViewAtom
+    ensures { raw_of result ≡ renumbered atom t v w }
+{
+    match atom {
+        RawAtom::Scalar { r, .. } => ViewAtom::Scalar { r, k: v },
+        RawAtom::Last { x, .. } => ViewAtom::Last { x, v },
+        RawAtom::Read { x, .. } => ViewAtom::Read { t, x, v },
+        RawAtom::Persist { x, .. } => ViewAtom::Persist { x, v },
+        RawAtom::Async { x, .. } => ViewAtom::Async { t, x, v },
+        RawAtom::Then { x, y, .. } => ViewAtom::Then { t, x, v, y, w },
+        RawAtom::Newest { x, .. } => ViewAtom::Newest { t, x },
+        RawAtom::Ordered { x, .. } => ViewAtom::Ordered { t, x },
+        RawAtom::Fenced { x, .. } => ViewAtom::Fenced { t, x },
+    }
 }
 
 /// The assertion over a program that a formula, as a text has it, is: the same formula, with its values and threads in the types that
@@ -123,6 +154,7 @@ pub fn assertion_over(
 }
 
 /// An assertion.
+#[cycle(viewed)]
 #[tactic(auto, unfolding(pg_assertion::specs::Formula::with_atoms))]
 pub fn viewed(
     alloc: Global,
@@ -136,23 +168,36 @@ pub fn viewed(
         Formula::True => Ok(Formula::True),
         Formula::False => Ok(Formula::False),
         Formula::Atom(atom) => Ok(Formula::Atom(viewed_atom(scope, *atom)?)),
-        Formula::Not(f) => Ok(Formula::not(alloc, viewed(alloc, scope, f.get())?)?),
+        Formula::Not(f) => Ok(Formula::Not(viewed_operand(alloc, scope, f.get())?)),
         Formula::And(f, g) => {
-            let f = viewed(alloc, scope, f.get())?;
-            let g = viewed(alloc, scope, g.get())?;
-            Ok(Formula::and(alloc, f, g)?)
+            let f = viewed_operand(alloc, scope, f.get())?;
+            let (f, g) = both(f, viewed_operand(alloc, scope, g.get()))?;
+            Ok(Formula::And(f, g))
         }
         Formula::Or(f, g) => {
-            let f = viewed(alloc, scope, f.get())?;
-            let g = viewed(alloc, scope, g.get())?;
-            Ok(Formula::or(alloc, f, g)?)
+            let f = viewed_operand(alloc, scope, f.get())?;
+            let (f, g) = both(f, viewed_operand(alloc, scope, g.get()))?;
+            Ok(Formula::Or(f, g))
         }
         Formula::Implies(f, g) => {
-            let f = viewed(alloc, scope, f.get())?;
-            let g = viewed(alloc, scope, g.get())?;
-            Ok(Formula::implies(alloc, f, g)?)
+            let f = viewed_operand(alloc, scope, f.get())?;
+            let (f, g) = both(f, viewed_operand(alloc, scope, g.get()))?;
+            Ok(Formula::Implies(f, g))
         }
     }
+}
+
+/// An operand of an assertion.
+#[cycle(viewed)]
+fn viewed_operand(
+    alloc: Global,
+    scope: Scope,
+    f: &Formula<RawAtom>,
+) -> Result<Boxed<Formula<ViewAtom>>, OutlineFault>
+    requires { (scope.domain ≤ largest_domain_2) × (scope.threads ≤ most_threads) }
+    ensures { Makes (λ g. with_atoms raw_of (plain g)) (plain f.now) (in_formula (atom_fault scope.domain scope.threads) (plain f.now)) result }
+{
+    Ok(Boxed::new(alloc, viewed(alloc, scope, f)?)?)
 }
 
 /// The assertions of a thread's points.
