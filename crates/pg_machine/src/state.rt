@@ -51,15 +51,20 @@ impl State {
         ensures state { IfOk result (λ s. s.state ≡ fresh p.now) }
         ensures formed { IfOk result (λ s. IsWellFormed p.now s.state) }
     {
-        let locations = usize::from(p.names().locations());
-        let lines = usize::from(p.names().lines());
-        let scalars = usize::from(p.names().scalars());
+        let names = p.names();
+        let locations = usize::from(names.locations());
+        let lines = usize::from(names.lines());
+        let scalars = usize::from(names.scalars());
         let threads = usize::from(p.threads());
+        let scalars = vec![in alloc; 0; scalars]?;
+        let points = vec![in alloc; 1; threads]?;
+        let views = fresh_views(alloc, threads, locations, lines)?;
+        let memory = Memory::fresh(alloc, names)?;
         Ok(State {
-            memory: Memory::fresh(alloc, p.names())?,
-            views: fresh_views(alloc, threads, locations, lines)?,
-            scalars: vec![in alloc; 0; scalars]?,
-            points: vec![in alloc; 1; threads]?,
+            memory,
+            views,
+            scalars,
+            points,
         })
     }
 
