@@ -1,7 +1,7 @@
 -- A step that is taken in parts is a step of the state.
 use Rattle.std.proofs.Common.{◌≡◌, ℕ, ◌-◌, ◌≤◌, List, [], ◌++◌, length, take, drop, get_or, set, Option, Some, inl, inr, sym, ap, subst, ◌∙◌, arith}
 use Rattle.std.proofs.Math.Seq.{take-append_seam}
-use Rattle.std.proofs.lemmas.List.{get_or_default}
+use Rattle.std.proofs.lemmas.List.{get_or_default, set-get_or}
 use Rattle.pg_program.specs.declared.syntax.Stmt.{Stmt}
 use Rattle.pg_program.specs.declared.point.Branch.{Branch}
 use Rattle.pg_program.specs.declared.point.Step.{Step}
@@ -120,3 +120,13 @@ pub refusal : (p : ProgramTable) (s : Held) (t k : ℕ) (stmt : Stmt) (d : ℕ) 
     → IsRefusal (ActFault p s.state (record { thread = t; choice = choice })) s.spare fault
 refusal p s t k stmt d m w r choice fault h e (inl row) = inl (refused p s.state t k stmt d m w r choice fault h row)
 refusal p s t k stmt d m w r choice fault h e (inr (is, none, free)) = inr (is, sym e ∙ none, λ f act. free f (unrefused p s.state t k stmt d m w r choice f h act))
+
+-- ---- a refusal, which leaves all as it was
+
+-- views that are written back as they were
+pub same_views : (views : List Views) (i : ℕ) (w v : Views) → w ≡ v → v ≡ get_or views i v → set views i w ≡ views
+same_views views i w v same here = ap (set views i) (same ∙ here) ∙ set-get_or views i v
+
+pub stays : (s : State) (m memory : Memory) (vs views : List Views) (qs scalars points : List ℕ) → (let n : State = record { memory = memory; views = views; scalars = scalars; points = points } in n) ≡ s
+    → m ≡ memory → vs ≡ views → qs ≡ scalars → (let n : State = record { memory = m; views = vs; scalars = qs; points = points } in n) ≡ s
+stays s m memory vs views qs scalars points is ms ws rs = rw (ms, ws, rs) is

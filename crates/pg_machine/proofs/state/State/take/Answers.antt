@@ -1,4 +1,4 @@
-use Rattle.std.proofs.Common.{ℕ, ◌-◌, ◌<◌, set, IsSome, List, length, sym, ap, subst, ◌∙◌}
+use Rattle.std.proofs.Common.{ℕ, ◌-◌, ◌<◌, set, IsSome, List, length, sym, ap, subst, ◌∙◌, arith}
 use Rattle.std.specs.List.{All}
 use Rattle.pg_program.specs.declared.point.Branch.{Branch}
 use Rattle.pg_program.specs.declared.point.Step.{Step}
@@ -8,11 +8,13 @@ use Rattle.pg_machine.specs.declared.event.Event.{Event}
 use Rattle.pg_machine.specs.State.{Views, State, AreSized}
 use Rattle.pg_machine.specs.Step.{leaves, moved, act_of, branch_taken, IsStep}
 use Rattle.pg_machine.specs.Held.{Held}
+use Rattle.pg_machine.specs.Memory.{Memory}
+use Rattle.pg_machine.specs.Moves.{Seen}
 use Rattle.pg_machine.specs.StepParts.{seen_in}
 use Rattle.pg_machine.proofs.Formed.{leads_on, act_scalars, stmt_scalars, stmt_locations}
 use Rattle.std.proofs.lemmas.List.{length-set}
 use Rattle.pg_machine.proofs.WellFormed.{step_sizes}
-use Rattle.pg_machine.proofs.Taken.{taken, refusal, parts_of, same_state, refill}
+use Rattle.pg_machine.proofs.Taken.{taken, refusal, parts_of, same_state, refill, same_views, stays}
 use Rattle.std.proofs.lemmas.Result.{err_from_is_err_and}
 use Rattle.pg_machine.proofs.state.State.take.Goals as goal
 
@@ -95,3 +97,39 @@ returns-clause-ok c =
     (ap (λ (h : Held). h.state.views) c.self.view_is) (ap (λ (h : Held). h.state.points) c.self.view_is) c.from-t.ensures
     (refill c.self.inside.scalars.len c.run.new.scalars c.self.inside.scalars.items (c.run.auto.scalars ∙ c.deref_mut.ensures.len)))
     step
+
+pub returns-in_err-run-clause-unchanged : goal.returns-in_err-run-clause-unchanged
+returns-in_err-run-clause-unchanged c =
+    let q = err_from_is_err_and c.from_residual.result c.from_residual.ensures.1 in
+    let same = c.in_err-run.ensures.unchanged in
+    rw q.1
+    (stays c.args.self.now.state c.run.new.memory.memory c.self.inside.memory.memory (set c.self.inside.views.items (c.from-t.result - 1) c.run.new.views) c.self.inside.views.items _ c.self.inside.scalars.items c.self.inside.points.items
+    (ap (λ (h : Held). h.state) c.self.view_is) (ap (λ (n : Seen). n.memory) same.0)
+    (same_views c.self.inside.views.items (c.from-t.result - 1) c.run.new.views c.index_mut-views.result.now (ap (λ (n : Seen). n.views) same.0) c.index_mut-views.ensures.value)
+    (refill c.self.inside.scalars.len c.run.new.scalars c.self.inside.scalars.items (c.run.auto.scalars ∙ c.deref_mut.ensures.len) ∙ (same.1 ∙ c.deref_mut.ensures.value)))
+
+pub returns-in_err-run-clause-spare : goal.returns-in_err-run-clause-spare
+returns-in_err-run-clause-spare c =
+    let spare = ap (λ (h : Held). h.spare) c.self.view_is in
+    let messages = ap (λ (h : Held). length h.state.memory.messages) c.self.view_is in
+    let more = c.run.ensures.spare in
+    omega (arith, spare, messages, more)
+
+pub returns-clause-spare : goal.returns-clause-spare
+returns-clause-spare c =
+    let spare = ap (λ (h : Held). h.spare) c.self.view_is in
+    let messages = ap (λ (h : Held). length h.state.memory.messages) c.self.view_is in
+    let more = c.run.ensures.spare in
+    omega (arith, spare, messages, more)
+
+pub invariant_of-self : goal.invariant_of-self
+invariant_of-self c =
+    let views = c.self.inside.views.items in
+    let i = c.from-t.result - 1 in
+    let seen = c.in_err-run.ensures.unchanged.0 in
+    let same = same_views views i c.run.new.views c.index_mut-views.result.now (ap (λ (n : Seen). n.views) seen) c.index_mut-views.ensures.value in (
+      c.run.ensures.within,
+      c.self.invariant.1 ∙ sym (ap length same),
+      subst (λ (l : List Views). All (AreSized c.run.new.memory.memory) l) (sym same)
+          (subst (λ (m : Memory). All (AreSized m) views) (sym (ap (λ (n : Seen). n.memory) seen)) c.self.invariant.2),
+    )
