@@ -1,5 +1,5 @@
 -- What the emitters of the top part leave in a sink.
-use Rattle.std.proofs.Common.{◌≡◌, ℕ, ◌<◌, Bool, List, [], ◌∷◌, ◌++◌, length, map, get_or, Result, refl, sym, ap₂, subst, arith, append_assoc}
+use Rattle.std.proofs.Common.{◌≡◌, ℕ, ◌<◌, Bool, List, [], ◌∷◌, ◌++◌, length, map, get_or, Result, refl, sym, ap, ap₂, subst, ◌∙◌, arith, append_assoc}
 use Rattle.std.proofs.lemmas.List.{map-append}
 use Rattle.pg_program.specs.declared.point.Step.{Step}
 use Rattle.pg_program.specs.NameTable.{NameTable}
@@ -13,12 +13,12 @@ use Rattle.pg_assertion.specs.Formula.{Plain}
 use Rattle.pg_assertion.specs.Layout.{Sizes, IsAtom}
 use Rattle.pg_outline.specs.Outline.{OutlineTable}
 use Rattle.pg_outline.specs.Made.{IsOutline}
-use Rattle.pg_region.specs.Literal.{Literal}
-use Rattle.pg_region.specs.Sink.{Capacity, SinkView, IsTaken, Appended, Stopped, Emitted}
-use Rattle.pg_tables.proofs.Sinks.{Appended-then, Appended-one, Stopped-first}
+use Rattle.pg_region.specs.Literal.{Literal, negated}
+use Rattle.pg_region.specs.Sink.{Capacity, SinkView, IsTaken, IsRefused, Takes, Appended, Stopped, Emitted}
+use Rattle.pg_tables.proofs.Sinks.{Appended-then, Appended-one, Stopped-first, Stopped-later, Stopped-one, Emitted-one}
 use Rattle.pg_program.proofs.ProgramLemmas.{has_values}
 use Rattle.pg_clauses.specs.Definitional.{after, literal, clauses}
-use Rattle.pg_clauses.specs.Made.{IsClausified}
+use Rattle.pg_clauses.specs.Made.{IsClausified, IsLeft}
 use Rattle.pg_clauses.proofs.Emitted.{Emitted-later}
 use Rattle.pg_clauses.proofs.Numbers.{later}
 use Rattle.pg_rules_access.specs.Access.{access}
@@ -44,6 +44,22 @@ module _ (takes : List (List Literal) → Capacity → List Literal → Bool) wh
         appended = Appended-then a b c (clauses n g) ((literal n g ∷ []) ∷ []) k.appended (subst (λ (y : Literal). Appended b c ((y ∷ []) ∷ [])) k.told (Appended-one takes b c (x ∷ []) t));
       }
 
+  pub definitions-stop : (a b : SinkView) (n next : ℕ) (f : Plain ℕ) → IsLeft takes a b n next f → Stopped takes a b (given_part n f)
+  definitions-stop a b n next f h = Stopped-first takes a b (clauses n f) ((literal n f ∷ []) ∷ []) h.stopped
+
+  pub literal-stops : (a b c : SinkView) (n next : ℕ) (f : Plain ℕ) (x : Literal) → IsClausified a b n next f x → IsRefused takes b c (x ∷ []) → Stopped takes a c (given_part n f)
+  literal-stops a b c n next f x k r =
+      Stopped-later takes a b c (clauses n f) ((literal n f ∷ []) ∷ []) k.appended (subst (λ (y : Literal). Stopped takes b c ((y ∷ []) ∷ [])) k.told (Stopped-one takes b c (x ∷ []) r))
+
+  pub goal-stops : (a b : SinkView) (n next : ℕ) (g : Plain ℕ) → IsLeft takes a b n next g → Stopped takes a b (top_part n [] g)
+  goal-stops a b n next g h = Stopped-first takes a b (clauses n g) ((negated (literal n g) ∷ []) ∷ []) h.stopped
+
+  pub goal-then : {F : Type 0} (r : Result (Unit {0}) F) (a b c : SinkView) (n next : ℕ) (g : Plain ℕ) (x y : Literal) → IsClausified a b n next g x → y ≡ negated x → Takes takes r b c (y ∷ [])
+      → Emitted takes r a c (top_part n [] g)
+  goal-then r a b c n next g x y k e t =
+      Emitted-later takes r a b c (clauses n g) ((negated (literal n g) ∷ []) ∷ []) k.appended
+      (Emitted-one takes r b c (negated (literal n g) ∷ []) (y ∷ []) (ap (λ (z : Literal). z ∷ []) (e ∙ ap negated k.told)) t)
+
   pub still_new : (a b : SinkView) (n next m : ℕ) (f : Plain ℕ) → IsGiven a b n f next → m < n → m < next
   still_new a b n next m f k h = let t = later n f in omega (arith, t, k.told, h)
 
@@ -68,6 +84,13 @@ module _ (takes : List (List Literal) → Capacity → List Literal → Bool) wh
       (subst (λ (u : ProgramTable). Emitted takes r a c (by_numbers l (rules_of u step))) f
       (subst (λ (cs : List (List Literal)). Emitted takes r a c cs) (sym (map-append _ (access p step) (persist p step)))
       (Emitted-later takes r a b c (by_numbers l (access p step)) (by_numbers l (persist p step)) h k)))
+
+  pub rules_stop : (a b : SinkView) (l m : Sizes) (p q : ProgramTable) (step : Step) → l ≡ m → p ≡ q → Stopped takes a b (by_numbers l (access p step)) → Stopped takes a b (by_numbers m (rules_of q step))
+  rules_stop a b l m p q step e f h =
+      subst (λ (z : Sizes). Stopped takes a b (by_numbers z (rules_of q step))) e
+      (subst (λ (u : ProgramTable). Stopped takes a b (by_numbers l (rules_of u step))) f
+      (subst (λ (cs : List (List Literal)). Stopped takes a b cs) (sym (map-append _ (access p step) (persist p step)))
+      (Stopped-first takes a b (by_numbers l (access p step)) (by_numbers l (persist p step)) h)))
 
   -- ---- a top part over the atoms of a step
 

@@ -1,5 +1,8 @@
+use Rattle.std.proofs.lemmas.Result.{err_from_is_err_and}
 use Rattle.pg_assertion.specs.Formula.{plain}
+use Rattle.pg_layers.specs.Top.{placed}
 use Rattle.pg_layers.proofs.Formulas.{placed-below, after-small}
+use Rattle.pg_layers.proofs.Given.{goal-stops, goal-then}
 use Rattle.pg_layers.proofs.top.offer_goal.Goals as goal
 
 pub clausify-requires-clause-below : goal.clausify-requires-clause-below
@@ -7,3 +10,13 @@ clausify-requires-clause-below g c = placed-below c.args.layout.now c.args.side 
 
 pub clausify-requires-clause-few : goal.clausify-requires-clause-few
 clausify-requires-clause-few g c = after-small c.args.layout.now c.args.side c.args.next (plain c.args.f.now) c.requires.part c.requires.few
+
+pub returns-in_err-literal : goal.returns-in_err-literal
+returns-in_err-literal g c =
+    let p = err_from_is_err_and c.from_residual.result c.from_residual.ensures.1 in
+    rw p.1 (goal-stops g.S.ClauseSink.takes _ _ c.args.next c.clausify.new.fresh (placed c.args.layout.now c.args.side (plain c.args.f.now)) c.in_err-literal.ensures)
+
+pub returns : goal.returns
+returns g c =
+    goal-then g.S.ClauseSink.takes c.clause.result _ _ _ c.args.next c.clausify.new.fresh (placed c.args.layout.now c.args.side (plain c.args.f.now)) c.in_ok-literal.literal c.negated.result
+    c.in_ok-literal.ensures c.negated.ensures c.clause.ensures
