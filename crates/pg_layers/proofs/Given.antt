@@ -152,3 +152,7 @@ fresh_fits o l names made e f =
 -- three equal formulas
 pub three : (f g h i j k : Plain ViewAtom) → f ≡ i → g ≡ j → h ≡ k → (f ∷ g ∷ h ∷ []) ≡ i ∷ j ∷ k ∷ []
 three f g h i j k p q r = ap₂ (λ (x : Plain ViewAtom) (xs : List (Plain ViewAtom)). x ∷ xs) p (ap₂ (λ (x y : Plain ViewAtom). x ∷ y ∷ []) q r)
+
+-- and a formula over the same layout
+pub part_in : (l m : Sizes) (f : Plain ViewAtom) → l ≡ m → IsPart m f → IsPart l f
+part_in l m f e h = subst (λ (z : Sizes). IsPart z f) (sym e) h

@@ -1,5 +1,5 @@
 -- What each part of a load leaves.
-use Rattle.std.proofs.Common.{◌≡◌, ℕ, zero, suc, List, [], ◌∷◌, ◌++◌, Option, Some, None, length, take, refl, sym, ap, ap₂, ◌∙◌, subst, append_assoc, arith, length-append}
+use Rattle.std.proofs.Common.{◌≡◌, ℕ, zero, suc, List, [], ◌∷◌, ◌++◌, Option, Some, None, length, take, refl, sym, ap, ap₂, ◌∙◌, subst, append_assoc, arith, length-append, ◌≤◌}
 use Rattle.std.proofs.lemmas.List.{append-nil}
 use Rattle.pg_program.specs.declared.point.Step.{Step}
 use Rattle.pg_assertion.specs.declared.layout.Side.TheVariants.{Before, After}
@@ -108,6 +108,13 @@ module _ (o : OutlineTable) where
 
   up_to_rules : (k : Layers) → AreMarks o k → k.rules ≡ length (base_of o ++ rules_if o k.ruled)
   up_to_rules k marks = marks.rules ∙ sym (length-append (base_of o) (rules_if o k.ruled))
+
+  pub marks_within : (k : Layers) (rest list : List (List Literal)) → Lies o k rest list → (k.rules ≤ length list) × (k.base ≤ length list)
+  marks_within k rest list lies =
+      let n = ap (λ (l : List (List Literal)). length l) lies.is ∙ length-append (base_of o) (rules_if o k.ruled ++ rest) in
+      let m = length-append (rules_if o k.ruled) rest in
+      let marks = lies.layers.marks in
+      (omega (arith, n, m, marks.rules), omega (arith, n, marks.base))
 
   pub kept : (step : Option Step) (k : Layers) (r r' : RegionTable) (rest : List (List Literal)) → Lies o k rest r.clauses → r' ≡ released r k.rules → k.ruled ≡ or_before step k.ruled
       → IsRuled o step k k r r'

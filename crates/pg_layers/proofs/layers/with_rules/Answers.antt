@@ -1,8 +1,11 @@
 use Rattle.std.proofs.Common.{Option, sym, ap}
 use Rattle.pg_program.specs.declared.point.Step.{Step}
 use Rattle.pg_layers.specs.Layers.{or_before}
-use Rattle.pg_layers.proofs.Laying.{kept}
+use Rattle.pg_layers.proofs.Laying.{marks_within, kept}
 use Rattle.pg_layers.proofs.layers.with_rules.Goals as goal
+
+pub release-requires : goal.release-requires
+release-requires c = (marks_within c.args.o.now c.args.k c.requires.lies.0 c.args.region.now.clauses c.requires.lies.1).0
 
 pub returns-in-None : goal.returns-in-None
 returns-in-None c =
