@@ -79,19 +79,16 @@ few_1 l side w = are-few _ _ _ (few (λ n. 1) (λ m n h. omega arith) l (largest
 pub few_2 : HasAtMost 2 most_axioms_2 most_axiom_literals_2
 few_2 l side w = are-few _ _ _ (few (λ n. 1) (λ m n h. omega arith) l (largest 2) w side) (few (λ n. n) (λ m n h. h) l (largest 2) w side)
 
--- these are computed
+-- these are computed, and are the same on either side
 
 pub largest_1 : LargestHas 1 most_axioms_1 most_axiom_literals_1
 unfolding per_thread per_location per_value per_scalar when
-largest_1 Before = (refl, refl)
-largest_1 After = (refl, refl)
+largest_1 side = (refl, refl)
 
 pub largest_2 : LargestHas 2 most_axioms_2 most_axiom_literals_2
 unfolding per_thread per_location per_value per_scalar when
-largest_2 Before = (refl, refl)
-largest_2 After = (refl, refl)
+largest_2 side = (refl, refl)
 
 pub smallest_has : SmallestHas 38
 unfolding per_thread per_location per_value per_scalar when
-smallest_has Before = refl
-smallest_has After = refl
+smallest_has side = refl
