@@ -1,10 +1,10 @@
 -- What printing an outline needs of its parts: the entries of the table one by one, the threads one by one, and that each
 -- formula speaks of declared names alone.
-use Rattle.std.proofs.Common.{◌≡◌, ℕ, zero, suc, ◌+◌, ◌<◌, List, [], ◌∷◌, ◌++◌, length, drop, map, get_or, Some, None, refl, sym, ap, ap₂, ◌∙◌, arith, append_assoc}
+use Rattle.std.proofs.Common.{◌≡◌, ℕ, zero, suc, ◌+◌, ◌<◌, ◌≤◌, List, [], ◌∷◌, ◌++◌, length, drop, map, get_or, Some, None, refl, sym, ap, ap₂, ◌∙◌, arith, append_assoc}
 use Rattle.std.specs.Prelude.{Result, Ok, Err, OnOk, Option, IfSome, option_map, slice_get, unwrap_or, codes, decimal}
-use Rattle.std.specs.List.{All}
+use Rattle.std.specs.List.{All, flat_map}
 use Rattle.std.proofs.lemmas.Option.{unwrap_or-slice_get}
-use Rattle.std.proofs.lemmas.List.{drop_more}
+use Rattle.std.proofs.lemmas.List.{append-nil, drop_more, drop_all}
 use Rattle.std.proofs.lemmas.List.Elements.{All-nil, All-cons, All-head, All-tail}
 use Rattle.pg_program.specs.declared.name_table.NameKind.TheVariants as name
 use Rattle.pg_program.specs.declared.name_table.ScalarKind.{ScalarKind}
@@ -23,7 +23,8 @@ use Rattle.pg_outline_text.specs.Spelling.{location_line, location_lines, scalar
 
 -- the line of a location by its name and its initial value
 pub location_entry : (o : Option Location) (n : List ℕ) (v : ℕ) (old new : List ℕ) → option_map (λ l. l.name) o ≡ Some n → option_map (λ l. l.init) o ≡ Some v
-    → new ≡ old ++ location_line n v → IfSome o (λ l. new ≡ old ++ location_line l.name l.init)
+    → new ≡ old ++ (codes "location " ++ (n ++ (codes " = " ++ (decimal v ++ codes ";\n")))) → IfSome o (λ l. new ≡ old ++ location_line l.name l.init)
+unfolding location_line
 location_entry None n v old new h k is = tt
 location_entry (Some l) n v old new h k is =
     let called : n ≡ l.name = cc in
@@ -60,6 +61,16 @@ pub auxiliary_line : (es : List (List ℕ × ScalarKind)) (r : ℕ) (n : List �
     → option_map (λ e. kind_of e.1) (slice_get es r) ≡ Some name.Auxiliary → scalar_line (get_or es r ([], scalar.Auxiliary)) ≡ codes "auxiliary " ++ (n ++ codes ";\n")
 auxiliary_line es r n h is = entry_line es r n scalar.Auxiliary h is
 
+pub scalar_printed : (es : List (List ℕ × ScalarKind)) (r : ℕ) (old new whole : List ℕ) → r < length es → new ≡ old ++ scalar_line (get_or es r ([], scalar.Auxiliary))
+    → old ++ flat_map scalar_line (drop r es) ≡ whole → new ++ flat_map scalar_line (drop (r + 1) es) ≡ whole
+scalar_printed es r old new whole below is so_far =
+    let line = scalar_line (get_or es r ([], scalar.Auxiliary)) in
+    let rest = flat_map scalar_line (drop (r + 1) es) in
+    ap (λ (t : List ℕ). t ++ rest) is ∙ append_assoc old line rest ∙ ap (λ t. old ++ flat_map scalar_line t) (sym (drop_more es r ([], scalar.Auxiliary) below)) ∙ so_far
+
+pub scalars_printed : (es : List (List ℕ × ScalarKind)) (r : ℕ) (text whole : List ℕ) → length es ≤ r → text ++ flat_map scalar_line (drop r es) ≡ whole → text ≡ whole
+scalars_printed es r text whole past so_far = sym (append-nil text) ∙ ap (λ t. text ++ flat_map scalar_line t) (sym (drop_all r es past)) ∙ so_far
+
 -- ---- threads
 
 first_notes-drop : (notes : List (List (Plain ViewAtom))) (i : ℕ) → first_notes (drop i notes) ≡ get_or notes i []
@@ -81,6 +92,19 @@ pub threads_more : (names : NameTable) (threads : List (List Stmt)) (notes : Lis
 threads_more names threads notes i below =
     ap (λ t. threads_lines names (i + 1) t (drop i notes)) (drop_more threads i [] below)
     ∙ ap₂ (λ ns rest. thread_lines names (i + 1) (get_or threads i []) ns ++ threads_lines names (i + 1 + 1) (drop (i + 1) threads) rest) (first_notes-drop notes i) (drop_next notes i)
+
+pub thread_printed : (names : NameTable) (threads : List (List Stmt)) (notes : List (List (Plain ViewAtom))) (i k : ℕ) (old new whole : List ℕ) → k ≡ i → i < length threads
+    → new ≡ old ++ thread_lines names (i + 1) (get_or threads k []) (get_or notes k []) → old ++ threads_lines names (i + 1) (drop i threads) (drop i notes) ≡ whole
+    → new ++ threads_lines names (i + 1 + 1) (drop (i + 1) threads) (drop (i + 1) notes) ≡ whole
+thread_printed names threads notes i k old new whole at below is so_far =
+    let lines = thread_lines names (i + 1) (get_or threads i []) (get_or notes i []) in
+    let rest = threads_lines names (i + 1 + 1) (drop (i + 1) threads) (drop (i + 1) notes) in
+    ap (λ (t : List ℕ). t ++ rest) (is ∙ ap (λ (j : ℕ). old ++ thread_lines names (i + 1) (get_or threads j []) (get_or notes j [])) at)
+    ∙ append_assoc old lines rest ∙ ap (λ (t : List ℕ). old ++ t) (sym (threads_more names threads notes i below)) ∙ so_far
+
+pub threads_printed : (names : NameTable) (threads : List (List Stmt)) (notes : List (List (Plain ViewAtom))) (i k : ℕ) (text whole : List ℕ) → length threads ≤ i
+    → text ++ threads_lines names k (drop i threads) notes ≡ whole → text ≡ whole
+threads_printed names threads notes i k text whole past so_far = sym (append-nil text) ∙ ap (λ t. text ++ threads_lines names k t notes) (sym (drop_all i threads past)) ∙ so_far
 
 -- ---- names of formulas
 

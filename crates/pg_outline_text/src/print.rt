@@ -6,7 +6,7 @@ ghost use Rattle.pg_assertion.specs.Formula.{plain, AllAtoms};
 ghost use Rattle.pg_assertion.specs.Atom.{NamesDeclared, CrashDeclared};
 ghost use Rattle.pg_assertion_text.specs.Spelling.{spell_atom, spell_crash};
 ghost use Rattle.pg_program.specs.Program.{thread_of};
-ghost use Rattle.pg_program.specs.declared.name_table.ScalarKind.TheVariants.{Register, Auxiliary};
+ghost use Rattle.pg_program.specs.declared.name_table.ScalarKind.TheVariants.{Auxiliary};
 ghost use Rattle.pg_outline.specs.Made.{IsOutline};
 ghost use Rattle.pg_outline_text.specs.Limits.{known_version};
 ghost use Rattle.pg_outline_text.specs.Spelling as spec;
@@ -85,28 +85,32 @@ fn put_locations(names: &Names, into: &mut Vec<u8>) -> Result<(), AllocError>
 }
 
 /// Appends the line of a location.
-#[tactic(auto, using(crate::proofs::SpellingParts::location_entry))]
 fn put_location(names: &Names, x: u8, into: &mut Vec<u8>) -> Result<(), AllocError>
     requires { x < length names.now.locations }
     ensures { OnOk result (IfSome (slice_get names.now.locations x) (λ l. into.new.items ≡ into.old.items ++ spec.location_line l.name l.init)) }
 {
-    put_declared(names.location_name(x).as_bytes(), names.init(x), into)
+    let name = names.location_name(x).as_bytes();
+    put_entry(b"location ", name, b" = ", names.init(x), into)
 }
 
-/// Appends the line of a location with this name and this initial value.
-#[tactic(auto, unfolding(crate::specs::Spelling::location_line))]
-fn put_declared(name: &[u8], init: u32, into: &mut Vec<u8>) -> Result<(), AllocError>
-    ensures { OnOk result (into.new.items ≡ into.old.items ++ spec.location_line name.now init) }
+/// Appends a line of a word, a name, a word between, and a number.
+fn put_entry(
+    word: &[u8],
+    name: &[u8],
+    between: &[u8],
+    number: u32,
+    into: &mut Vec<u8>,
+) -> Result<(), AllocError>
+    ensures { OnOk result (into.new.items ≡ into.old.items ++ (word.now ++ (name.now ++ (between.now ++ (decimal number ++ codes ";\n"))))) }
 {
-    into.extend_from_slice(b"location ")?;
+    into.extend_from_slice(word)?;
     into.extend_from_slice(name)?;
-    into.extend_from_slice(b" = ")?;
-    put_number(init, into)?;
+    into.extend_from_slice(between)?;
+    put_number(number, into)?;
     into.extend_from_slice(b";\n")
 }
 
 /// Appends a line for each scalar.
-#[tactic(auto, using(std::proofs::lemmas::List::drop_more))]
 fn put_scalars(names: &Names, into: &mut Vec<u8>) -> Result<(), AllocError>
     ensures { OnOk result (into.new.items ≡ into.old.items ++ flat_map spec.scalar_line names.now.scalars) }
 {
@@ -124,21 +128,10 @@ fn put_scalar(names: &Names, r: u8, into: &mut Vec<u8>) -> Result<(), AllocError
 {
     let name = names.scalar_name(r).as_bytes();
     match names.kind(r) {
-        NameKind::Register { owner } => put_register(name, owner, into),
+        NameKind::Register { owner } => put_entry(b"register ", name, b" of ", owner, into),
         NameKind::Auxiliary => put_auxiliary(name, into),
         NameKind::Location { .. } | NameKind::LocationWith { .. } => unreachable!(),
     }
-}
-
-/// Appends the line of a register.
-fn put_register(name: &[u8], owner: u32, into: &mut Vec<u8>) -> Result<(), AllocError>
-    ensures { OnOk result (into.new.items ≡ into.old.items ++ spec.scalar_line (name.now, Register owner)) }
-{
-    into.extend_from_slice(b"register ")?;
-    into.extend_from_slice(name)?;
-    into.extend_from_slice(b" of ")?;
-    put_number(owner, into)?;
-    into.extend_from_slice(b";\n")
 }
 
 /// Appends the line of an auxiliary.
@@ -186,7 +179,6 @@ fn put_crash(f: &Formula<CrashAtom>, names: &Names, into: &mut Vec<u8>) -> Resul
 }
 
 /// Appends the lines of the threads.
-#[tactic(auto, using(crate::proofs::SpellingParts::threads_more))]
 fn put_threads(o: &Outline, into: &mut Vec<u8>) -> Result<(), AllocError>
     ensures { OnOk result (into.new.items ≡ into.old.items ++ spec.threads_lines o.now.program.names 1 o.now.program.threads o.now.notes) }
 {
