@@ -1,3 +1,4 @@
+pub mod Parts
 pub mod SetPairs
 pub mod AxiomsTrue
 pub mod AxiomsFew
