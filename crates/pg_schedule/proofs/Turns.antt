@@ -60,6 +60,10 @@ pub act_taken :
     → acts_after s (acts (saying old)) ≡ acts_after t (acts (saying new))
 act_taken s t old new n w is ok = rw is (line_after s t n (act w) (acts (saying new)) ok)
 
+pub act_counted : (s t : ScheduleTable) (n : ℕ) (r : Read Act) → added n s r ≡ Ok t → length t ≡ length s + 1
+act_counted s t n (Ok p) is = omega (arith, ap (λ (r : Result ScheduleTable DocFault). length (got r)) is, length-append s (line_with n p.0 ∷ []))
+act_counted s t n (Err e) is = let differ : false ≡ true = ap is_ok is in absurd (grind (arith, differ))
+
 pub no_act :
     (s : ScheduleTable) (old new : List TextLine) (n : ℕ) (w : Words) (e : DocFault) → saying old ≡ record { number = n; words = w } ∷ saying new → act w ≡ Err e
     → acts_after s (acts (saying old)) ≡ Err e
@@ -72,6 +76,15 @@ all_acts s old is = rw (is, append-nil s) refl
 
 pub positions_left : (ps : List ℕ) (i : ℕ) → i < length ps → positions_text (drop i ps) ≡ codes " " ++ decimal (get_or ps i 0) ++ positions_text (drop (suc i) ps)
 positions_left ps i within = rw (drop-cons ps i 0 within) refl
+
+pub position_printed :
+    (ps : List ℕ) (i next : ℕ) (text one whole : List ℕ) → next ≡ suc i → i < length ps → one ≡ text ++ (codes " " ++ decimal (get_or ps i 0)) → text ++ positions_text (drop i ps) ≡ whole
+    → one ++ positions_text (drop next ps) ≡ whole
+position_printed ps i next text one whole is_next within is so_far =
+    rw (is_next, is) (append_assoc text (codes " " ++ decimal (get_or ps i 0)) (positions_text (drop (suc i) ps)) ∙ (ap (λ t. text ++ t) (sym (positions_left ps i within)) ∙ so_far))
+
+pub all_positions_printed : (ps : List ℕ) (i : ℕ) (text whole : List ℕ) → length ps ≤ i → text ++ positions_text (drop i ps) ≡ whole → text ≡ whole
+all_positions_printed ps i text whole past so_far = sym (append-nil text) ∙ ap (λ t. text ++ positions_text t) (sym (drop_all i ps past)) ∙ so_far
 
 pub acts_left : (s : ScheduleTable) (k : ℕ) → k < length s → acts_text (drop k s) ≡ act_text (act_at s k) ++ codes "\n" ++ acts_text (drop (suc k) s)
 acts_left [] k within = absurd (omega arith)

@@ -68,13 +68,12 @@ fn read_act(
 {
     if line.words.begins(b"step") {
         let event = read_step(&mut line.words)?;
-        into.push_step(line.number, event)?;
+        into.push_step(line.number, event)
     } else {
         positions.clear();
         read_crash(&mut line.words, positions)?;
-        into.push_crash(line.number, positions)?;
+        into.push_crash(line.number, positions)
     }
-    Ok(())
 }
 
 /// A step of a thread, and the position that it chooses, if it chooses one.

@@ -1,11 +1,12 @@
 //! Schedules, as they are kept.
 
-ghost use Rattle.std.specs.Prelude.{◌≡◌, ◌+◌, ◌^◌, ◌<◌, ◌≤◌, [], ◌∷◌, ◌++◌, length, slice_range, OnOk};
+ghost use Rattle.std.specs.Prelude.{◌≡◌, ◌+◌, ◌^◌, ◌<◌, ◌≤◌, [], ◌∷◌, ◌++◌, length, slice_range, MatchResult};
 ghost use Rattle.pg_schedule.specs.Schedule.{step, crash, number_at, act_at};
 ghost use Rattle.pg_schedule.specs.Held.{IsEventOfNumbers, HasNumbers, act_lent, IsShort};
 
+use pg_document::DocFault;
 use pg_machine::Event;
-use std::alloc::{AllocError, Global};
+use std::alloc::Global;
 use std::marker::Model;
 
 /// What a line of a schedule says, lent by it.
@@ -97,10 +98,10 @@ impl Schedule {
     }
 
     /// Adds a line with a step.
-    pub(crate) fn push_step(&mut self, number: u32, event: Event) -> Result<(), AllocError>
+    pub(crate) fn push_step(&mut self, number: u32, event: Event) -> Result<(), DocFault>
         requires few { length self.old + 1 < 2 ^ 32 }
         requires numbers { IsEventOfNumbers event }
-        ensures { OnOk result (self.new ≡ self.old ++ record { number = number; act = step event } ∷ []) }
+        ensures { MatchResult result (λ _. self.new ≡ self.old ++ record { number = number; act = step event } ∷ []) (λ e. e ≡ DocFault.NoMemory) }
     {
         self.entries.push(Entry {
             number,
@@ -110,10 +111,10 @@ impl Schedule {
     }
 
     /// Adds a line with a crash.
-    pub(crate) fn push_crash(&mut self, number: u32, at: &[u32]) -> Result<(), AllocError>
+    pub(crate) fn push_crash(&mut self, number: u32, at: &[u32]) -> Result<(), DocFault>
         requires few { length self.old + 1 < 2 ^ 32 }
         requires short { length at.now < 2 ^ 32 }
-        ensures { OnOk result (self.new ≡ self.old ++ record { number = number; act = crash at.now } ∷ []) }
+        ensures { MatchResult result (λ _. self.new ≡ self.old ++ record { number = number; act = crash at.now } ∷ []) (λ e. e ≡ DocFault.NoMemory) }
     {
         let from = self.positions.as_slice().len();
         self.positions.extend_from_slice(at)?;
