@@ -6,7 +6,6 @@ use Rattle.std.proofs.Math.Nat.{mul-le-mul_right}
 use Rattle.std.specs.List.{flat_map}
 use Rattle.pg_assertion.specs.declared.atom.ViewAtom.TheVariants.{Scalar, Last}
 use Rattle.pg_assertion.specs.declared.layout.Side.{Side}
-use Rattle.pg_assertion.specs.declared.layout.Side.TheVariants.{Before, After}
 use Rattle.pg_assertion.specs.declared.step_atom.StepAtom.TheVariants.{On}
 use Rattle.pg_assertion.specs.Layout.{Sizes, threads}
 use Rattle.pg_views.specs.Laws.{readable, persistent, pending, is_in}

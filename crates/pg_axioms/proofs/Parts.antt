@@ -1,5 +1,5 @@
 -- The axioms in the parts in which the code gives them to a sink.
-use Rattle.std.proofs.Common.{◌≡◌, Bool, List, ◌++◌, Option, None, Result, Ok, Err, sym, ap, subst, ◌∙◌, append_assoc}
+use Rattle.std.proofs.Common.{◌≡◌, Bool, List, ◌++◌, None, Result, Ok, Err, sym, ap, subst, ◌∙◌, append_assoc}
 use Rattle.std.proofs.lemmas.List.{map-append}
 use Rattle.pg_assertion.specs.declared.layout.Side.{Side}
 use Rattle.pg_assertion.specs.Layout.{Sizes}

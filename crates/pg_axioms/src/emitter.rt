@@ -43,11 +43,7 @@ fn offer_last_values<S: ClauseSink>(
 }
 
 /// Those of the views of a thread.
-fn offer_views<S: ClauseSink>(
-    layout: &Layout,
-    side: Side,
-    into: &mut S,
-) -> Result<(), S::Fault>
+fn offer_views<S: ClauseSink>(layout: &Layout, side: Side, into: &mut S) -> Result<(), S::Fault>
     ensures { Emitted S.takes result (S.view into.old) (S.view into.new) (written (record { layout = layout.now; case = None }) (spec.pending_may_persist layout.now side ++ (spec.newest_read_is_last layout.now side ++ spec.newest_is_covered layout.now side))) }
 {
     let pending_may_persist = PerThread(PerLocation(PerValue(PendingMayPersist { side })));
@@ -64,11 +60,7 @@ fn offer_views<S: ClauseSink>(
 }
 
 /// Those of what may be read after a load, and of the sets of values.
-fn offer_loads<S: ClauseSink>(
-    layout: &Layout,
-    side: Side,
-    into: &mut S,
-) -> Result<(), S::Fault>
+fn offer_loads<S: ClauseSink>(layout: &Layout, side: Side, into: &mut S) -> Result<(), S::Fault>
     ensures { Emitted S.takes result (S.view into.old) (S.view into.new) (written (record { layout = layout.now; case = None }) (spec.then_was_readable layout.now side ++ (spec.last_is_read_then layout.now side ++ (spec.newest_load_keeps layout.now side ++ spec.sets_nest layout.now side)))) }
 {
     let then_was_readable = PerThread(PerLocation(PerValue(PerLocation(PerValue(ThenWasReadable {
