@@ -9,8 +9,8 @@ ghost use Rattle.pg_assertion.specs.Atom.{NamesDeclared};
 ghost use Rattle.pg_report.specs.Obligations.{givens, given_line};
 ghost use Rattle.pg_report.specs.Fresh as spec;
 
-use pg_assertion::{Formula, ViewAtom};
-use pg_assertion_text::print_formula;
+use crate::words::append_view_atom;
+use pg_assertion::ViewAtom;
 use pg_obligations::Obligation;
 use pg_outline::Outline;
 use pg_program::{Names, Program};
@@ -129,12 +129,13 @@ fn append_absent_value(
 }
 
 /// Appends the line that an atom is true.
+#[tactic(auto, unfolding(pg_assertion_text::specs::Spelling::spell))]
 fn append_true(atom: ViewAtom, names: &Names, text: &mut Vec<u8>) -> Result<(), AllocError>
     requires { NamesDeclared names.now atom }
     ensures { OnOk result (text.new.items ≡ text.old.items ++ spec.true_line names.now atom) }
 {
     text.extend_from_slice(b"given ")?;
-    print_formula(&Formula::Atom(atom), names, text)?;
+    append_view_atom(atom, names, text)?;
     text.extend_from_slice(b"\n")
 }
 
@@ -146,6 +147,6 @@ fn append_false(atom: ViewAtom, names: &Names, text: &mut Vec<u8>) -> Result<(),
 {
     text.extend_from_slice(b"given ")?;
     text.extend_from_slice(b"!")?;
-    print_formula(&Formula::Atom(atom), names, text)?;
+    append_view_atom(atom, names, text)?;
     text.extend_from_slice(b"\n")
 }

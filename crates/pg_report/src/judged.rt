@@ -14,9 +14,8 @@ ghost use Rattle.pg_report.specs.Reported.{ReportsLines};
 use crate::fault::ReportFault;
 use crate::lines::put_lines;
 use crate::obligations::append_heading;
-use crate::words::{append_counted, append_line};
-use pg_assertion::{Formula, Layout, Side, StepAtom, ViewAtom};
-use pg_assertion_text::print_formula;
+use crate::words::{append_counted, append_line, append_view_atom};
+use pg_assertion::{Layout, Side, StepAtom, ViewAtom};
 use pg_io::Sink;
 use pg_judge::Judgement;
 use pg_obligations::{Obligation, Obligations};
@@ -200,7 +199,6 @@ fn append_step_atom(names: &Names, atom: StepAtom, text: &mut Vec<u8>) -> Result
     }
 }
 
-#[tactic(auto, unfolding(pg_assertion_text::specs::Spelling::spell))]
 fn append_atom(
     names: &Names,
     atom: ViewAtom,
@@ -211,7 +209,7 @@ fn append_atom(
     ensures { OnOk result (text.new.items ≡ text.old.items ++ spec.step_atom_line names.now (StepAtom.On atom side)) }
 {
     text.extend_from_slice(side_word(side))?;
-    print_formula(&Formula::Atom(atom), names, text)?;
+    append_view_atom(atom, names, text)?;
     text.extend_from_slice(b"\n")
 }
 

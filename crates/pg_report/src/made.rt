@@ -44,10 +44,23 @@ fn made_text(
     ensures { IfOk result (λ text. text.items ≡ spec.made_text n o.now (outcome_of judgement.now)) }
 {
     let mut text = Vec::new(alloc);
-    append_line(b"made ", n, &mut text)?;
-    append_judgement(o, judgement, &mut text)?;
-    append_nodes(judgement, &mut text)?;
+    append_made(n, o, judgement, &mut text)?;
     Ok(text)
+}
+
+/// Appends the text.
+fn append_made(
+    n: u32,
+    o: &Outline,
+    judgement: &Judgement,
+    text: &mut Vec<u8>,
+) -> Result<(), AllocError>
+    requires { IsToldOf o.now (outcome_of judgement.now) }
+    ensures { OnOk result (text.new.items ≡ text.old.items ++ spec.made_text n o.now (outcome_of judgement.now)) }
+{
+    append_line(b"made ", n, text)?;
+    append_judgement(o, judgement, text)?;
+    append_nodes(judgement, text)
 }
 
 /// Appends how many nodes were visited, where the outline is accepted.

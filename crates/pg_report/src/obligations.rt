@@ -12,7 +12,7 @@ ghost use Rattle.pg_report.specs.Reported.{ReportsLines};
 use crate::fault::ReportFault;
 use crate::fresh::append_fresh;
 use crate::lines::put_lines;
-use crate::words::append_number;
+use crate::words::{append_counted, append_number};
 use pg_assertion::{Formula, ViewAtom};
 use pg_assertion_text::{print_crash, print_formula};
 use pg_io::Sink;
@@ -65,10 +65,23 @@ fn obligation_text(
     ensures { IfOk result (λ text. text.items ≡ spec.obligation_text o.now i obligation) }
 {
     let mut text = Vec::new(alloc);
-    append_heading(i, obligation, &mut text)?;
-    append_givens(o, obligation, &mut text)?;
-    append_goal(o, obligation, &mut text)?;
+    append_obligation(o, i, obligation, &mut text)?;
     Ok(text)
+}
+
+/// Appends the lines of obligation `i`.
+fn append_obligation(
+    o: &Outline,
+    i: u32,
+    obligation: Obligation,
+    text: &mut Vec<u8>,
+) -> Result<(), AllocError>
+    requires { IsPlaced o.now.program obligation }
+    ensures { OnOk result (text.new.items ≡ text.old.items ++ spec.obligation_text o.now i obligation) }
+{
+    append_heading(i, obligation, text)?;
+    append_givens(o, obligation, text)?;
+    append_goal(o, obligation, text)
 }
 
 /// Appends the line with the number and the kind.
@@ -87,19 +100,10 @@ fn append_kind(obligation: Obligation, text: &mut Vec<u8>) -> Result<(), AllocEr
 {
     match obligation {
         Obligation::Fresh => text.extend_from_slice(b"fresh"),
-        Obligation::Entry(t) => {
-            text.extend_from_slice(b"entry ")?;
-            append_number(u32::from(t), text)
-        }
+        Obligation::Entry(t) => append_counted(b"entry ", u32::from(t), text),
         Obligation::EntryCrash => text.extend_from_slice(b"entry crash"),
-        Obligation::Local(step) => {
-            text.extend_from_slice(b"local ")?;
-            append_step(step, text)
-        }
-        Obligation::Crash(step) => {
-            text.extend_from_slice(b"crash ")?;
-            append_step(step, text)
-        }
+        Obligation::Local(step) => append_step(b"local ", step, text),
+        Obligation::Crash(step) => append_step(b"crash ", step, text),
         Obligation::Interfere(step, at) => append_interference(step, at, text),
     }
 }
@@ -108,16 +112,16 @@ fn append_kind(obligation: Obligation, text: &mut Vec<u8>) -> Result<(), AllocEr
 fn append_interference(step: Step, at: PointId, text: &mut Vec<u8>) -> Result<(), AllocError>
     ensures { OnOk result (text.new.items ≡ text.old.items ++ spec.obligation_kind (Obligation.Interfere step at)) }
 {
-    text.extend_from_slice(b"interfere ")?;
-    append_step(step, text)?;
+    append_step(b"interfere ", step, text)?;
     text.extend_from_slice(b" on ")?;
     append_point(at.thread, at.point, text)
 }
 
-/// Appends the name of a step.
-fn append_step(step: Step, text: &mut Vec<u8>) -> Result<(), AllocError>
-    ensures { OnOk result (text.new.items ≡ text.old.items ++ spec.step_text step) }
+/// Appends a word and the name of a step.
+fn append_step(word: &[u8], step: Step, text: &mut Vec<u8>) -> Result<(), AllocError>
+    ensures { OnOk result (text.new.items ≡ text.old.items ++ (word.now ++ spec.step_text step)) }
 {
+    text.extend_from_slice(word)?;
     append_point(step.thread, step.point, text)?;
     text.extend_from_slice(branch_letter(step.branch))
 }

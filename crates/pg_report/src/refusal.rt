@@ -34,13 +34,20 @@ fn refusal_line(alloc: Global, fault: &FileFault) -> Result<Vec<u8>, AllocError>
     ensures { IfOk result (λ line. line.items ≡ line_of (plain_fault fault.now)) }
 {
     let mut line = Vec::new(alloc);
+    append_refusal(fault, &mut line)?;
+    Ok(line)
+}
+
+/// Appends the line of a fault; nothing for want of memory.
+fn append_refusal(fault: &FileFault, line: &mut Vec<u8>) -> Result<(), AllocError>
+    ensures { OnOk result (line.new.items ≡ line.old.items ++ line_of (plain_fault fault.now)) }
+{
     if is_memory(fault) {
-        return Ok(line);
+        return Ok(());
     }
     line.extend_from_slice(b"refused ")?;
-    append_fault(fault, &mut line)?;
-    line.extend_from_slice(b"\n")?;
-    Ok(line)
+    append_fault(fault, line)?;
+    line.extend_from_slice(b"\n")
 }
 
 /// Whether the fault is want of memory.
@@ -74,13 +81,18 @@ fn append_text_fault(fault: TextFault, line: &mut Vec<u8>) -> Result<(), AllocEr
     ensures { OnOk result (line.new.items ≡ line.old.items ++ text_fault fault) }
 {
     match fault {
-        TextFault::At { place, kind } => {
-            append_number(place, line)?;
-            line.extend_from_slice(b" ")?;
-            line.extend_from_slice(called(kind))
-        }
+        TextFault::At { place, kind } => append_placed(place, called(kind), line),
         TextFault::NoMemory => Ok(()),
     }
+}
+
+/// Appends a place, and what the fault there is called.
+fn append_placed(place: u32, name: &[u8], line: &mut Vec<u8>) -> Result<(), AllocError>
+    ensures { OnOk result (line.new.items ≡ line.old.items ++ (decimal place ++ (codes " " ++ name.now))) }
+{
+    append_number(place, line)?;
+    line.extend_from_slice(b" ")?;
+    line.extend_from_slice(name)
 }
 
 fn called(kind: TextKind) -> &'static [u8]
@@ -127,12 +139,17 @@ fn append_outline_fault(fault: OutlineFault, line: &mut Vec<u8>) -> Result<(), A
         OutlineFault::ValueOutOfDomain(v) => append_counted(b"value ", v, line),
         OutlineFault::UnknownThread(t) => append_counted(b"unknown thread ", t, line),
         OutlineFault::CrashLocations(n) => append_counted(b"crash locations ", n, line),
-        OutlineFault::CrashNodes(n) => {
-            line.extend_from_slice(b"crash nodes ")?;
-            line.extend_from_slice(Buffer::new().format(n).as_bytes())
-        }
+        OutlineFault::CrashNodes(n) => append_nodes(n, line),
         OutlineFault::NoMemory => Ok(()),
     }
+}
+
+/// Appends how many nodes a crash formula would have.
+fn append_nodes(n: u64, line: &mut Vec<u8>) -> Result<(), AllocError>
+    ensures { OnOk result (line.new.items ≡ line.old.items ++ (codes "crash nodes " ++ decimal n)) }
+{
+    line.extend_from_slice(b"crash nodes ")?;
+    line.extend_from_slice(Buffer::new().format(n).as_bytes())
 }
 
 /// Appends a name between two labels.
