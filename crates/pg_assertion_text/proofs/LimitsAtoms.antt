@@ -1,7 +1,6 @@
 -- The same of atoms: their node is that of their first token, and nothing behind it has a limit.
-use Rattle.std.proofs.Common.{◌≡◌, ◌||◌, ℕ, ◌-◌, ◌==◌, Bool, true, false, Ok, Err, List, [], ◌∷◌, refl, ap, sym, ◌∙◌, subst, inl, inr}
-use Rattle.std.specs.Prelude.{◌⊎◌, if◌then◌else◌, Option, Some, None, Result}
-use Rattle.std.proofs.lemmas.Bool.{eqb-true}
+use Rattle.std.proofs.Common.{◌≡◌, ℕ, ◌-◌, ◌==◌, Bool, true, false, Ok, Err, List, [], ◌∷◌, refl, ap, sym, ◌∙◌, subst, inl, inr}
+use Rattle.std.specs.Prelude.{if◌then◌else◌, Option, Some, None, Result}
 use Rattle.pg_lex.specs.declared.token.Sign.TheVariants as s
 use Rattle.pg_lex.specs.declared.token.TokenKind.{TokenKind}
 use Rattle.pg_lex.specs.declared.token.TokenKind.TheVariants as kind
@@ -12,6 +11,7 @@ use Rattle.pg_lex.specs.Piece.{is_letter}
 use Rattle.pg_lex.specs.Lex.{Cursor, Lexeme, token, after}
 use Rattle.pg_lex.specs.Grammar.{IsToken}
 use Rattle.pg_lex.proofs.Cursors.{munches_most}
+use Rattle.pg_lex.proofs.Reading.{letter_cases}
 use Rattle.pg_program.specs.NameTable.{NameTable, find}
 use Rattle.pg_program.specs.declared.name_table.NameRef.{NameRef}
 use Rattle.pg_program.specs.declared.name_table.NameRef.TheVariants as place
@@ -155,43 +155,6 @@ free_lettered names p b =
     (free_if (b == 78) _ _ (free_made (seen names) (λ a. raw.Newest a.0 a.1) (free_seen names))
     (free_if (b == 79) _ _ (free_made (seen names) (λ a. raw.Ordered a.0 a.1) (free_seen names))
     (free_if (b == 70) _ _ (free_made (seen names) (λ a. raw.Fenced a.0 a.1) (free_seen names)) (λ i. unexpected_free p))))))))
-
--- ---- letters
-
-or_cases : (x y : Bool) → (x || y) ≡ true → (x ≡ true) ⊎ (y ≡ true)
-or_cases true y h = inl refl
-or_cases false y h = inr h
-
-at_byte : (P : ℕ → Type 0) (b k : ℕ) → P k → b == k ≡ true → P b
-at_byte P b k here same = subst P (sym (eqb-true b k same)) here
-
-letter_cases : (P : ℕ → Type 0) → P 65 → P 67 → P 70 → P 76 → P 78 → P 79 → P 80 → P 82 → (b : ℕ) → is_letter b ≡ true → P b
-letter_cases P a c f l n o p r b h =
-    elim (or_cases _ (b == 82) h) [
-      | inr e ↦ at_byte P b 82 r e
-      | inl h ↦
-          elim (or_cases _ (b == 80) h) [
-            | inr e ↦ at_byte P b 80 p e
-            | inl h ↦
-                elim (or_cases _ (b == 79) h) [
-                  | inr e ↦ at_byte P b 79 o e
-                  | inl h ↦
-                      elim (or_cases _ (b == 78) h) [
-                        | inr e ↦ at_byte P b 78 n e
-                        | inl h ↦
-                            elim (or_cases _ (b == 76) h) [
-                              | inr e ↦ at_byte P b 76 l e
-                              | inl h ↦
-                                  elim (or_cases _ (b == 70) h) [
-                                    | inr e ↦ at_byte P b 70 f e
-                                    | inl h ↦
-                                        elim (or_cases (b == 65) (b == 67) h) [ inr e ↦ at_byte P b 67 c e | inl e ↦ at_byte P b 65 a e ]
-                                  ]
-                            ]
-                      ]
-                ]
-          ]
-    ]
 
 module _ (names : NameTable) (easy_number : Easy names (number 0)) (some_location : ℕ) (easy_location : Easy names (location some_location)) where
   pub bind_at_limit : {T A : Type 0} (stands : Cursor → T → Cursor → Type 0) (c : Cursor) (o : Outcome A) (f : A → Parser T) → Free o → ((a : A) (j : Input) → o ≡ Ok (a, j) → LimitedAtom names stands c (f a j)) → LimitedAtom names stands c (and_then o f)

@@ -1,16 +1,16 @@
 //! Formulas, read from their tokens. A bracket or a `!` opens a level; nothing else is read by recursion.
 
-ghost use Rattle.std.specs.Prelude.{◌≡◌, option_map, map, Ok, Err, IfOk, IfErr};
+ghost use Rattle.std.specs.Prelude.{◌≡◌, option_map, map, IfOk};
 ghost use Rattle.pg_assertion.specs.Formula.{plain};
 ghost use Rattle.pg_lex.specs.Lex.{lexeme};
 ghost use Rattle.pg_assertion_text.specs.Reading as spec;
 ghost use Rattle.pg_assertion_text.specs.Input.{Does, Reads};
 
 use crate::atoms::ReadAtom;
-use crate::tokens::{Tokens, is_sign, refused};
+use crate::tokens::{Tokens, endless, is_sign, refused};
 use pg_assertion::Formula;
 use pg_lex::{Sign, TextFault, TextKind, Token, TokenKind};
-use pg_program::Names;
+use pg_program::{Names, beside};
 use std::alloc::{AllocError, Global};
 
 /// What a token begins.
@@ -55,22 +55,6 @@ fn opened(tokens: &mut Tokens<'_>) -> Result<(Opening, u32), TextFault>
         }
         Opening::Atom => Ok((opening, token.place)),
     }
-}
-
-/// What was read, with what was read after it.
-fn beside<A: Drop, B>(first: A, second: Result<B, TextFault>) -> Result<(A, B), TextFault>
-    ensures ok { IfOk result (λ p. (p.0 ≡ first) × (second ≡ Ok p.1)) }
-    ensures err { IfErr result (λ e. second ≡ Err e) }
-{
-    let second = second?;
-    Ok((first, second))
-}
-
-/// The fault of a chain that goes on for too long, of which this was read.
-fn endless<A: Drop>(_read: A) -> TextFault
-    ensures { result ≡ TextFault.At 0 TextKind.TooMany }
-{
-    refused(0, TextKind::TooMany)
 }
 
 /// `true` or `false`.

@@ -198,6 +198,13 @@ pub fn refused(place: u32, kind: TextKind) -> TextFault
     TextFault::At { place, kind }
 }
 
+/// The fault of a chain that goes on for too long, of which this was read.
+pub fn endless<A: Drop>(_read: A) -> TextFault
+    ensures { result ≡ TextFault.At 0 TextKind.TooMany }
+{
+    refused(0, TextKind::TooMany)
+}
+
 /// A token that cannot stand at its place.
 pub fn unexpected(place: u32) -> TextFault
     ensures { result ≡ TextFault.At place TextKind.Unexpected }

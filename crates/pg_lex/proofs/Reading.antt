@@ -140,7 +140,8 @@ or_cases false y h = inr h
 at_byte : (P : ℕ → Type 0) (b k : ℕ) → P k → b == k ≡ true → P b
 at_byte P b k here same = subst P (sym (eqb-true b k same)) here
 
-letter_cases : (P : ℕ → Type 0) → P 65 → P 67 → P 70 → P 76 → P 78 → P 79 → P 80 → P 82 → (b : ℕ) → is_letter b ≡ true → P b
+-- what holds of each letter holds of a byte that is one
+pub letter_cases : (P : ℕ → Type 0) → P 65 → P 67 → P 70 → P 76 → P 78 → P 79 → P 80 → P 82 → (b : ℕ) → is_letter b ≡ true → P b
 letter_cases P a c f l n o p r b h =
     elim (or_cases _ (b == 82) h) [
       | inr e ↦ at_byte P b 82 r e

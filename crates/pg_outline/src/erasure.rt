@@ -5,9 +5,10 @@ ghost use Rattle.pg_program.specs.NameTable.{find, is_full, with_name, MayJoin, 
 ghost use Rattle.pg_program.specs.Program.{IsProgram};
 ghost use Rattle.pg_outline.specs.Erasure.{erased, erased_names, erased_stmt, erased_act, moved, moved_test, new_place, first_locations, DeclaresAgain};
 
-use crate::both::both;
 use crate::outline::Outline;
-use pg_program::{Act, Cond, DeclareFault, Expr, NameKind, Names, Program, ProgramFault, Stmt};
+use pg_program::{
+    Act, Cond, DeclareFault, Expr, NameKind, Names, Program, ProgramFault, Stmt, beside,
+};
 use sqlite_items::{Boxed, Items};
 use std::alloc::{AllocError, Global};
 
@@ -24,7 +25,7 @@ fn erased_program(alloc: Global, program: &Program) -> Result<Program, AllocErro
     ensures { IfOk result (λ p. p ≡ erased program.now) }
 {
     let names = erased_names(alloc, program.names())?;
-    let (names, threads) = both(names, erased_threads(alloc, program))?;
+    let (names, threads) = beside(names, erased_threads(alloc, program))?;
     built(alloc, names, threads)
 }
 
@@ -50,7 +51,7 @@ fn erased_names(alloc: Global, names: &Names) -> Result<Names, AllocError>
 {
     let mut kept = Names::make(alloc, names.domain(), names.version());
     let declared = declare_kept(&mut kept, names);
-    let (kept, ()) = both(kept, declared)?;
+    let (kept, ()) = beside(kept, declared)?;
     Ok(kept)
 }
 
@@ -143,17 +144,17 @@ fn moved(alloc: Global, names: &Names, e: &Expr) -> Result<Expr, AllocError>
         Expr::Scalar(r) => Expr::Scalar(new_place(names, *r)),
         Expr::Add(a, b) => {
             let a = moved_operand(alloc, names, a.get())?;
-            let (a, b) = both(a, moved_operand(alloc, names, b.get()))?;
+            let (a, b) = beside(a, moved_operand(alloc, names, b.get()))?;
             Expr::Add(a, b)
         }
         Expr::Sub(a, b) => {
             let a = moved_operand(alloc, names, a.get())?;
-            let (a, b) = both(a, moved_operand(alloc, names, b.get()))?;
+            let (a, b) = beside(a, moved_operand(alloc, names, b.get()))?;
             Expr::Sub(a, b)
         }
         Expr::Mul(a, b) => {
             let a = moved_operand(alloc, names, a.get())?;
-            let (a, b) = both(a, moved_operand(alloc, names, b.get()))?;
+            let (a, b) = beside(a, moved_operand(alloc, names, b.get()))?;
             Expr::Mul(a, b)
         }
     })
@@ -172,7 +173,7 @@ fn moved_test(alloc: Global, names: &Names, test: &Cond) -> Result<Cond, AllocEr
     ensures { IfOk result (λ c. c ≡ moved_test (new_place names.now) test.now) }
 {
     let left = moved(alloc, names, &test.left)?;
-    let (left, right) = both(left, moved(alloc, names, &test.right))?;
+    let (left, right) = beside(left, moved(alloc, names, &test.right))?;
     Ok(Cond {
         left,
         right,
@@ -246,7 +247,7 @@ fn moved_while(
 ) -> Result<Act, AllocError>
     ensures { IfOk result (λ a. a ≡ Act.While (moved_test (new_place names.now) test.now) body.items) }
 {
-    let (body, test) = both(body, moved_test(alloc, names, test))?;
+    let (body, test) = beside(body, moved_test(alloc, names, test))?;
     Ok(Act::While {
         test,
         body: Items::from_vec(body),

@@ -7,7 +7,6 @@
 //! that was read, exactly as `build` does. `erase` gives its program without auxiliaries (`specs/Erasure.antt`).
 #![tactic(auto)]
 
-mod both;
 mod erasure;
 mod fault;
 pub mod laws;

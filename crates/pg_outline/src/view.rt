@@ -9,10 +9,9 @@ ghost use Rattle.pg_outline.specs.Numbers.{numbers_of, renumbered, fault_if};
 ghost use Rattle.pg_outline.specs.Made.{Makes, Checks};
 ghost use Rattle.pg_outline.specs.Speaks.{IsOver};
 
-use crate::both::both;
 use crate::fault::OutlineFault;
 use pg_assertion::{CrashAtom, Formula, RawAtom, ViewAtom};
-use pg_program::Program;
+use pg_program::{Program, beside};
 use sqlite_items::Boxed;
 use std::alloc::Global;
 
@@ -171,17 +170,17 @@ pub fn viewed(
         Formula::Not(f) => Ok(Formula::Not(viewed_operand(alloc, scope, f.get())?)),
         Formula::And(f, g) => {
             let f = viewed_operand(alloc, scope, f.get())?;
-            let (f, g) = both(f, viewed_operand(alloc, scope, g.get()))?;
+            let (f, g) = beside(f, viewed_operand(alloc, scope, g.get()))?;
             Ok(Formula::And(f, g))
         }
         Formula::Or(f, g) => {
             let f = viewed_operand(alloc, scope, f.get())?;
-            let (f, g) = both(f, viewed_operand(alloc, scope, g.get()))?;
+            let (f, g) = beside(f, viewed_operand(alloc, scope, g.get()))?;
             Ok(Formula::Or(f, g))
         }
         Formula::Implies(f, g) => {
             let f = viewed_operand(alloc, scope, f.get())?;
-            let (f, g) = both(f, viewed_operand(alloc, scope, g.get()))?;
+            let (f, g) = beside(f, viewed_operand(alloc, scope, g.get()))?;
             Ok(Formula::Implies(f, g))
         }
     }

@@ -14,6 +14,7 @@ mod fault;
 mod graph;
 pub mod laws;
 mod name_table;
+mod pairs;
 mod point;
 mod sought;
 mod syntax;
@@ -26,5 +27,6 @@ pub use graph::{Program, is_test, store_of};
 pub use name_table::{
     DeclareFault, MAX_LOCATIONS, MAX_LOCATIONS_2, MAX_SCALARS, NameKind, NameRef, Names, ScalarKind,
 };
+pub use pairs::beside;
 pub use point::{Branch, PointId, Step};
 pub use syntax::{Act, AuxAssign, Cond, Expr, Stmt};

@@ -9,16 +9,15 @@ pub struct PointId {
 
 /// Which of the steps from a point: the one of a statement that is no test, or the one that a test takes where it
 /// holds, or where it does not.
-#[derive(Clone, Copy, Default, PartialEq, Eq)]
+#[derive(Clone, Copy, PartialEq, Eq)]
 pub enum Branch {
-    #[default]
     Plain,
     Yes,
     No,
 }
 
 /// A step of a thread from a point to another of its points, or back to the same. All are numbered from 1.
-#[derive(Clone, Copy, Default, PartialEq, Eq)]
+#[derive(Clone, Copy, PartialEq, Eq)]
 pub struct Step {
     pub thread: u8,
     pub point: u8,

@@ -6,11 +6,10 @@ ghost use Rattle.pg_assertion_text.specs.Words.{IsText};
 ghost use Rattle.pg_lex.specs.Lex.{lexeme};
 ghost use Rattle.pg_program_text.specs.Expr as spec;
 
-use crate::beside::{beside, endless};
 use pg_assertion_text::Tokens;
-use pg_assertion_text::tokens::{named, refused, unexpected};
+use pg_assertion_text::tokens::{endless, named, refused, unexpected};
 use pg_lex::{Sign, TextFault, TextKind, Token, TokenKind};
-use pg_program::{Expr, NameRef, Names};
+use pg_program::{Expr, NameRef, Names, beside};
 use sqlite_items::Boxed;
 use std::alloc::{AllocError, Global};
 

@@ -11,7 +11,6 @@
 //! them, and apart from them the notes of the points in the order of the text.
 #![tactic(auto)]
 
-mod beside;
 mod expr;
 mod keyword;
 pub mod laws;

@@ -11,14 +11,13 @@ ghost use Rattle.pg_program_text.specs.Limits.{most_assignments};
 ghost use Rattle.pg_program_text.specs.Limits.{text_limits};
 ghost use Rattle.pg_program_text.specs.Stmt as spec;
 
-use crate::beside::beside;
 use crate::expr::sum;
 use crate::keyword::{Keyword, keyword_at};
 use pg_assertion::{Formula, RawAtom};
 use pg_assertion_text::tokens::{is_sign, named, refused, unexpected};
 use pg_assertion_text::{Tokens, parse_formula};
 use pg_lex::{Sign, TextFault, TextKind, Token};
-use pg_program::{Act, AuxAssign, Cond, Expr, NameKind, NameRef, Names};
+use pg_program::{Act, AuxAssign, Cond, Expr, NameKind, NameRef, Names, beside};
 use sqlite_items::Items;
 use std::alloc::Global;
 

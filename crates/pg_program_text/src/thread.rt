@@ -13,14 +13,13 @@ ghost use Rattle.pg_program_text.specs.Text.{lines, noted, ReadsAt, Answers};
 ghost use Rattle.pg_program_text.specs.Grammar.{IsThreadText};
 ghost use Rattle.pg_program_text.specs.FirstFaults.{BlamesToken};
 
-use crate::beside::beside;
 use crate::keyword::{Keyword, keyword_at};
 use crate::stmt::{act, bracket, note, test};
 use pg_assertion::{Formula, RawAtom};
 use pg_assertion_text::Tokens;
 use pg_assertion_text::tokens::{is_sign, named, refused, unexpected};
 use pg_lex::{Lexer, Sign, TextFault, TextKind, Token};
-use pg_program::{Act, AuxAssign, Cond, Names, Stmt};
+use pg_program::{Act, AuxAssign, Cond, Names, Stmt, beside};
 use sqlite_items::Items;
 use std::alloc::{AllocError, Global};
 
