@@ -23,12 +23,14 @@ use Rattle.pg_judge.specs.Laws.{IsProved, Says}
 use Rattle.pg_app.specs.declared.file.Kind.TheVariants.{Outline}
 use Rattle.pg_app.specs.Line.{too_long}
 use Rattle.pg_app.specs.File.{File, outline_file, derivation_file, schedule_file, limit, derivation_in, schedule_in, IsOutlineText}
-use Rattle.pg_app.specs.Command.{Command, check, obligations, derive, verify, replay, made, command_of, files_for}
+use Rattle.pg_app.specs.declared.command.Work.{Work}
+use Rattle.pg_app.specs.declared.command.Work.TheVariants.{Check, Obligations, Derive, Verify, Replay}
+use Rattle.pg_app.specs.Command.{Command, check, obligations, derive, verify, replay, made, command_of, files_for, asked_on}
 use Rattle.pg_app.specs.Answer.{whole, IsJudged, IsJudgement, IsDerived, IsMadeJudgement, IsListed, IsChecked, IsReplayed, IsRefused, IsNoDocument, IsDone, AsOutline, AsDocument, AsDerivation, AsSchedule, OnFile, OnOutline, Answers, AnswersTo, Tells, status_of, verified_status, violated_status, replayed_status}
 use Rattle.pg_app.specs.Put.{Puts}
 use Rattle.pg_app.specs.Safety.{IsSafeText, Claims, Denies}
-use Rattle.pg_app.specs.Run.{statuses, IsAnswer, AreTold, AreQuiet, Reached, Writes, WritesPart, Fetches, Ends}
-use Rattle.pg_app.specs.Stops.{IsFetched, IsFetchedAs, IsFailed, Stops, EndsOn}
+use Rattle.pg_app.specs.Run.{statuses, IsAnswer, AreTold, AreQuiet, Reached, Writes, WritesPart, Fetches, IsUnfetched, Ends}
+use Rattle.pg_app.specs.Stops.{IsFetched, IsFetchedAs, IsFailed, Stops, EndsOn, EndsWork}
 use Rattle.pg_app.proofs.Puts.{whole_is_part, puts_map}
 use Rattle.pg_app.proofs.BothFiles.{both_end, on_both_defined, on_both_long, on_both_says}
 use Rattle.pg_app.proofs.Files.{on_file_map, fetched_told, on_file_claims, as_outline_claims}
@@ -75,62 +77,27 @@ module _ {told : List ℕ → Option (List ℕ)} {taken taken_now status : ℕ} 
         (λ s text work. inr (record { bytes = fetched.bytes; finds = fetched.finds; answers = inr (record { outline = o; stands = fetched.stands; work = work }) }))
         status old new before now puts
 
+  -- the outline's file ends the call, whatever the work and the files behind it
   module _ {faults faults_now : List ℕ → ℕ} (name : List ℕ) where
-    pub check_ends : (budget : ℕ) (o : OutlineTable) → IsFetched told taken taken_now (outline_file name) o → Puts (IsJudged IsJudgement budget o) status old new before now
-        → Ends (Some (check name budget)) told faults faults_now taken taken_now status old new before now
-    check_ends budget o fetched puts = record { how = inl (done_puts name (IsJudged IsJudgement budget) o fetched puts) }
-
-    pub check_stops : (budget : ℕ) → Stops told (outline_file name) (faults name) (faults_now name) taken taken_now status old new before now
-        → Ends (Some (check name budget)) told faults faults_now taken taken_now status old new before now
-    check_stops budget stops =
+    stopped : (Work : OutlineTable → ℕ → List ℕ → Type 0) (more : List File) → Stops told (outline_file name) (faults name) (faults_now name) taken taken_now status old new before now
+        → Puts (OnOutline (Fetches told taken taken_now) name Work) status old new before now ⊎ IsUnfetched told (outline_file name ∷ more) faults faults_now status old new
+    stopped Work more stops =
         elim stops.how [
-          | inl puts ↦ record { how = inl (stopped_puts told taken taken_now name (IsJudged IsJudgement budget) status old new before now puts) }
-          | inr failed ↦ record { how = inr (record { status_is = failed.status_is; rose = inl failed.rose; kept = failed.kept }) }
+          | inl puts ↦ inl (stopped_puts told taken taken_now name Work status old new before now puts)
+          | inr failed ↦ inr (record { status_is = failed.status_is; rose = inl failed.rose; kept = failed.kept })
         ]
 
-    pub obligations_ends : (o : OutlineTable) → IsFetched told taken taken_now (outline_file name) o → Puts (IsListed o) status old new before now
-        → Ends (Some (obligations name)) told faults faults_now taken taken_now status old new before now
-    obligations_ends o fetched puts = record { how = inl (done_puts name IsListed o fetched puts) }
-
-    pub obligations_stops : Stops told (outline_file name) (faults name) (faults_now name) taken taken_now status old new before now
-        → Ends (Some (obligations name)) told faults faults_now taken taken_now status old new before now
-    obligations_stops stops =
-        elim stops.how [
-          | inl puts ↦ record { how = inl (stopped_puts told taken taken_now name IsListed status old new before now puts) }
-          | inr failed ↦ record { how = inr (record { status_is = failed.status_is; rose = inl failed.rose; kept = failed.kept }) }
-        ]
-
-    pub derive_ends : (budget : ℕ) (o : OutlineTable) → IsFetched told taken taken_now (outline_file name) o → Puts (IsJudged IsDerived budget o) status old new before now
-        → Ends (Some (derive name budget)) told faults faults_now taken taken_now status old new before now
-    derive_ends budget o fetched puts = record { how = inl (done_puts name (IsJudged IsDerived budget) o fetched puts) }
-
-    pub derive_stops : (budget : ℕ) → Stops told (outline_file name) (faults name) (faults_now name) taken taken_now status old new before now
-        → Ends (Some (derive name budget)) told faults faults_now taken taken_now status old new before now
-    derive_stops budget stops =
-        elim stops.how [
-          | inl puts ↦ record { how = inl (stopped_puts told taken taken_now name (IsJudged IsDerived budget) status old new before now puts) }
-          | inr failed ↦ record { how = inr (record { status_is = failed.status_is; rose = inl failed.rose; kept = failed.kept }) }
-        ]
-
-    pub verify_stops : (second : List ℕ) → Stops told (outline_file name) (faults name) (faults_now name) taken taken_now status old new before now
-        → Ends (Some (verify name second)) told faults faults_now taken taken_now status old new before now
-    verify_stops second stops =
-        elim stops.how [
-          | inl puts ↦ record {
-            how = inl (stopped_puts told taken taken_now name (λ o. OnFile (Fetches told taken taken_now) (derivation_file second) (AsDerivation o)) status old new before now puts);
-          }
-          | inr failed ↦ record { how = inr (record { status_is = failed.status_is; rose = inl failed.rose; kept = failed.kept }) }
-        ]
-
-    pub replay_stops : (second : List ℕ) → Stops told (outline_file name) (faults name) (faults_now name) taken taken_now status old new before now
-        → Ends (Some (replay name second)) told faults faults_now taken taken_now status old new before now
-    replay_stops second stops =
-        elim stops.how [
-          | inl puts ↦ record {
-            how = inl (stopped_puts told taken taken_now name (λ o. OnFile (Fetches told taken taken_now) (schedule_file second) (AsSchedule o)) status old new before now puts);
-          }
-          | inr failed ↦ record { how = inr (record { status_is = failed.status_is; rose = inl failed.rose; kept = failed.kept }) }
-        ]
+    pub work_stops : (work : Work) → Stops told (outline_file name) (faults name) (faults_now name) taken taken_now status old new before now
+        → Ends (Some (asked_on name work)) told faults faults_now taken taken_now status old new before now
+    work_stops (Check budget) stops = record { how = stopped (IsJudged IsJudgement budget) [] stops }
+    work_stops Obligations stops = record { how = stopped IsListed [] stops }
+    work_stops (Derive budget) stops = record { how = stopped (IsJudged IsDerived budget) [] stops }
+    work_stops (Verify derivation) stops = record {
+      how = stopped (λ o. OnFile (Fetches told taken taken_now) (derivation_file derivation.now) (AsDerivation o)) (derivation_file derivation.now ∷ []) stops;
+    }
+    work_stops (Replay schedule) stops = record {
+      how = stopped (λ o. OnFile (Fetches told taken taken_now) (schedule_file schedule.now) (AsSchedule o)) (schedule_file schedule.now ∷ []) stops;
+    }
 
 -- a document that was fetched is answered, or its refusal ends the second file
 module _ {told : List ℕ → Option (List ℕ)} {taken taken_now status : ℕ} {old new : Option (List ℕ)} {before now : ℕ} where
@@ -170,17 +137,25 @@ module _ {told : List ℕ → Option (List ℕ)} {taken taken_now status : ℕ} 
         → EndsOn (AsSchedule o) told (schedule_file name) faults faults_now taken taken_now status old new before now
     schedule_stops stops = document_stops schedule_in (λ x. IsReplayed x o) (schedule_file name) faults faults_now stops.how
 
--- the second file of a command ends it; `mid` is its count of faults when it is fetched
-module _ {told later : List ℕ → Option (List ℕ)} {faults faults_now : List ℕ → ℕ} {taken between taken_now status : ℕ} {old new : Option (List ℕ)} {before now : ℕ}
-    (name second : List ℕ) (o : OutlineTable) (mid : ℕ) (same : later second ≡ told second) (grown : faults second ≤ mid) (le : taken ≤ between)
-    (fetched : IsFetched told taken between (outline_file name) o) where
-  pub verify_ends : EndsOn (AsDerivation o) later (derivation_file second) mid (faults_now second) between taken_now status old new before now
-      → Ends (Some (verify name second)) told faults faults_now taken taken_now status old new before now
-  verify_ends ends = record { how = both_end later name (derivation_file second) AsDerivation o same le fetched mid grown ends }
+-- what was found of a file does not rest on what is taken later
+still : (told : List ℕ → Option (List ℕ)) (taken between taken_now : ℕ) (file : File) (o : OutlineTable) → IsFetched told taken between file o → IsFetched told taken taken_now file o
+still told taken between taken_now file o fetched = record { bytes = fetched.bytes; finds = fetched.finds; stands = fetched.stands }
 
-  pub replay_ends : EndsOn (AsSchedule o) later (schedule_file second) mid (faults_now second) between taken_now status old new before now
-      → Ends (Some (replay name second)) told faults faults_now taken taken_now status old new before now
-  replay_ends ends = record { how = both_end later name (schedule_file second) AsSchedule o same le fetched mid grown ends }
+-- the work on the outline that was fetched ends the call; `mid` has the counts of faults before it
+module _ {told later : List ℕ → Option (List ℕ)} {faults mid faults_now : List ℕ → ℕ} {taken between taken_now status : ℕ} {old new : Option (List ℕ)} {before now : ℕ}
+    (name : List ℕ) (o : OutlineTable) (same : (n : List ℕ) → later n ≡ told n) (grown : (n : List ℕ) → faults n ≤ mid n) (le : taken ≤ between)
+    (fetched : IsFetched told taken between (outline_file name) o) where
+  pub work_ends : (work : Work) → EndsWork work o later mid faults_now between taken_now status old new before now
+      → Ends (Some (asked_on name work)) told faults faults_now taken taken_now status old new before now
+  work_ends (Check budget) puts = record { how = inl (done_puts name (IsJudged IsJudgement budget) o (still told taken between taken_now (outline_file name) o fetched) puts) }
+  work_ends Obligations puts = record { how = inl (done_puts name IsListed o (still told taken between taken_now (outline_file name) o fetched) puts) }
+  work_ends (Derive budget) puts = record { how = inl (done_puts name (IsJudged IsDerived budget) o (still told taken between taken_now (outline_file name) o fetched) puts) }
+  work_ends (Verify derivation) ends = record {
+    how = both_end later name (derivation_file derivation.now) AsDerivation o (same derivation.now) le fetched (mid derivation.now) (grown derivation.now) ends;
+  }
+  work_ends (Replay schedule) ends = record {
+    how = both_end later name (schedule_file schedule.now) AsSchedule o (same schedule.now) le fetched (mid schedule.now) (grown schedule.now) ends;
+  }
 
 -- no file is read where an outline is made
 pub made_ends : {told : List ℕ → Option (List ℕ)} {faults faults_now : List ℕ → ℕ} {taken taken_now status : ℕ} {old new : Option (List ℕ)} {before now : ℕ} (statements budget : ℕ)

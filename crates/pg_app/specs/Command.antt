@@ -5,6 +5,8 @@ use Rattle.pg_made.specs.Limits.{most_statements}
 use Rattle.pg_judge.specs.Limits.{most_budget}
 use Rattle.pg_app.specs.declared.command.Command as code
 use Rattle.pg_app.specs.declared.command.Command.TheVariants as variant
+use Rattle.pg_app.specs.declared.command.Work.{Work}
+use Rattle.pg_app.specs.declared.command.Work.TheVariants as work
 use Rattle.pg_app.specs.File.{File, outline_file, derivation_file, schedule_file}
 use Rattle.pg_app.specs.Number.{number_up_to}
 
@@ -97,13 +99,17 @@ abbrev pub command_of : List (String Global) → Option Command
 command_of [] = None
 command_of (word ∷ rest) = begun (string_bytes word) rest
 
--- a command as the code has it
+-- work on the outline in the file of this name, as the code has it
+abbrev pub asked_on : List ℕ → Work → Command
+asked_on name (work.Check budget) = check name budget
+asked_on name work.Obligations = obligations name
+asked_on name (work.Derive budget) = derive name budget
+asked_on name (work.Verify derivation) = verify name derivation.now
+asked_on name (work.Replay schedule) = replay name schedule.now
+
+-- and a command
 abbrev pub asked : code.Command → Command
-asked (variant.Check name budget) = check name.now budget
-asked (variant.Obligations name) = obligations name.now
-asked (variant.Derive name budget) = derive name.now budget
-asked (variant.Verify name derivation) = verify name.now derivation.now
-asked (variant.Replay name schedule) = replay name.now schedule.now
+asked (variant.On name work) = asked_on name.now work
 asked (variant.Made statements budget) = made statements budget
 
 -- a budget that may be given
@@ -114,13 +120,17 @@ IsBudget budget = (1 ≤ budget) × (budget ≤ most_budget)
 abbrev pub IsStatements : ℕ → Type 0
 IsStatements n = (1 ≤ n) × (n ≤ most_statements)
 
+-- the budget of work may be given
+abbrev pub HasWorkBudget : Work → Type 0
+HasWorkBudget (work.Check budget) = IsBudget budget
+HasWorkBudget work.Obligations = Unit {0}
+HasWorkBudget (work.Derive budget) = IsBudget budget
+HasWorkBudget (work.Verify derivation) = Unit {0}
+HasWorkBudget (work.Replay schedule) = Unit {0}
+
 -- the numbers of a command may be given
 abbrev pub HasBudget : code.Command → Type 0
-HasBudget (variant.Check name budget) = IsBudget budget
-HasBudget (variant.Obligations name) = Unit {0}
-HasBudget (variant.Derive name budget) = IsBudget budget
-HasBudget (variant.Verify name derivation) = Unit {0}
-HasBudget (variant.Replay name schedule) = Unit {0}
+HasBudget (variant.On name work) = HasWorkBudget work
 HasBudget (variant.Made statements budget) = IsStatements statements × IsBudget budget
 
 -- the words ask for a derivation

@@ -4,8 +4,10 @@ use Rattle.pg_io.specs.Counts.{Rose}
 use Rattle.pg_document.specs.declared.fault.DocFault.{DocFault}
 use Rattle.pg_outline.specs.Outline.{OutlineTable}
 use Rattle.pg_outline_text.specs.Text.{StandsFor}
-use Rattle.pg_app.specs.File.{File}
-use Rattle.pg_app.specs.Answer.{whole, OnFile, IsRefused}
+use Rattle.pg_app.specs.declared.command.Work.{Work}
+use Rattle.pg_app.specs.declared.command.Work.TheVariants.{Check, Obligations, Derive, Verify, Replay}
+use Rattle.pg_app.specs.File.{File, derivation_file, schedule_file}
+use Rattle.pg_app.specs.Answer.{whole, OnFile, IsRefused, IsJudged, IsJudgement, IsListed, IsDerived, AsDerivation, AsSchedule}
 use Rattle.pg_app.specs.Put.{Puts}
 use Rattle.pg_app.specs.Run.{Fetches}
 
@@ -38,3 +40,13 @@ pub record EndsOn (Takes : List ℕ → ℕ → List ℕ → Type 0) (told : Lis
   pub how :
       Puts (OnFile (Fetches told taken taken_now) file Takes) status old new before now
       ⊎ IsFailed faults faults_now status old new
+
+-- the text of the work on an outline was put, or the call ended on its second file
+abbrev pub EndsWork : Work → OutlineTable → (List ℕ → Option (List ℕ)) → (List ℕ → ℕ) → (List ℕ → ℕ) → ℕ → ℕ → ℕ → Option (List ℕ) → Option (List ℕ) → ℕ → ℕ → Type 0
+EndsWork (Check budget) o told faults faults_now taken taken_now status old new before now = Puts (IsJudged IsJudgement budget o) status old new before now
+EndsWork Obligations o told faults faults_now taken taken_now status old new before now = Puts (IsListed o) status old new before now
+EndsWork (Derive budget) o told faults faults_now taken taken_now status old new before now = Puts (IsJudged IsDerived budget o) status old new before now
+EndsWork (Verify derivation) o told faults faults_now taken taken_now status old new before now =
+    EndsOn (AsDerivation o) told (derivation_file derivation.now) (faults derivation.now) (faults_now derivation.now) taken taken_now status old new before now
+EndsWork (Replay schedule) o told faults faults_now taken taken_now status old new before now =
+    EndsOn (AsSchedule o) told (schedule_file schedule.now) (faults schedule.now) (faults_now schedule.now) taken taken_now status old new before now

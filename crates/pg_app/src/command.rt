@@ -13,18 +13,25 @@ const DEFAULT_BUDGET: u32 = 100_000;
 /// What the words ask for. This project's own.
 #[derive(Clone, Copy)]
 pub enum Command<'a> {
-    /// To judge the outline in a file under a budget of nodes.
-    Check { name: &'a str, budget: u32 },
-    /// To print the obligations of the outline in a file.
-    Obligations { name: &'a str },
-    /// To judge the outline in a file under a budget of nodes, and to write its derivation.
-    Derive { name: &'a str, budget: u32 },
-    /// To check the derivation in a second file against the outline in the first.
-    Verify { name: &'a str, derivation: &'a str },
-    /// To replay the schedule in a second file on the outline in the first.
-    Replay { name: &'a str, schedule: &'a str },
+    /// To do work on the outline in a file.
+    On { name: &'a str, work: Work<'a> },
     /// To judge the made outline with so many statements in each thread, under a budget of nodes.
     Made { statements: u32, budget: u32 },
+}
+
+/// What is done with the outline in a file. This project's own.
+#[derive(Clone, Copy)]
+pub enum Work<'a> {
+    /// It is judged under a budget of nodes.
+    Check { budget: u32 },
+    /// Its obligations are printed.
+    Obligations,
+    /// It is judged under a budget of nodes, and its derivation is written.
+    Derive { budget: u32 },
+    /// The derivation in a second file is checked against it.
+    Verify { derivation: &'a str },
+    /// The schedule in a second file is replayed on it.
+    Replay { schedule: &'a str },
 }
 
 /// The command that the words are, if they have one of the shapes `check NAME [BUDGET]`, `obligations NAME`, `derive NAME [BUDGET]`,
@@ -54,7 +61,8 @@ fn check_of(words: &[String]) -> Option<Command<'_>>
     ensures budget { IfSome result spec.HasBudget }
 {
     let (name, budget) = name_and_budget(words)?;
-    Some(Command::Check { name, budget })
+    let work = Work::Check { budget };
+    Some(Command::On { name, work })
 }
 
 // `obligations`, with what is behind it.
@@ -63,8 +71,9 @@ fn obligations_of(words: &[String]) -> Option<Command<'_>>
     ensures budget { IfSome result spec.HasBudget }
 {
     match words {
-        [word] => Some(Command::Obligations {
+        [word] => Some(Command::On {
             name: name_in(word)?,
+            work: Work::Obligations,
         }),
         _ => None,
     }
@@ -76,7 +85,8 @@ fn derive_of(words: &[String]) -> Option<Command<'_>>
     ensures budget { IfSome result spec.HasBudget }
 {
     let (name, budget) = name_and_budget(words)?;
-    Some(Command::Derive { name, budget })
+    let work = Work::Derive { budget };
+    Some(Command::On { name, work })
 }
 
 // `verify`, with what is behind it.
@@ -85,7 +95,8 @@ fn verify_of(words: &[String]) -> Option<Command<'_>>
     ensures budget { IfSome result spec.HasBudget }
 {
     let (name, derivation) = two_names(words)?;
-    Some(Command::Verify { name, derivation })
+    let work = Work::Verify { derivation };
+    Some(Command::On { name, work })
 }
 
 // `replay`, with what is behind it.
@@ -94,7 +105,8 @@ fn replay_of(words: &[String]) -> Option<Command<'_>>
     ensures budget { IfSome result spec.HasBudget }
 {
     let (name, schedule) = two_names(words)?;
-    Some(Command::Replay { name, schedule })
+    let work = Work::Replay { schedule };
+    Some(Command::On { name, work })
 }
 
 // `made`, with what is behind it.

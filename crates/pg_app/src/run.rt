@@ -13,8 +13,9 @@ ghost use Rattle.pg_app.specs.Command.{files_in};
 ghost use Rattle.pg_app.specs.File.{limit};
 ghost use Rattle.pg_app.specs.Safety.{Claims, Denies};
 ghost use Rattle.pg_app.specs.Run.{statuses, AreQuiet, AreTold, HasOneAnswer, IsAnswer, IsRun, Reached, Writes, WritesPart, Ends};
+ghost use Rattle.pg_app.specs.Stops.{EndsWork};
 
-use crate::command::{Command, command_of};
+use crate::command::{Command, Work, command_of};
 use crate::derive::derive_outline;
 use crate::fetch::fetched_outline;
 use crate::judge::judge_outline;
@@ -26,6 +27,7 @@ use crate::status::NO_COMMAND;
 use crate::verify::verify_against;
 use pg_derive::laws::a_derivation_has_one_answer;
 use pg_io::{Room, Sink};
+use pg_outline::Outline;
 use std::alloc::Global;
 
 /// Does what the words say, and answers the status: fetches the files of the command from the room,
@@ -111,90 +113,50 @@ fn perform<R: Room, K: Sink>(alloc: Global, command: Command<'_>, room: &mut R, 
     ensures told { (n : List ℕ) → R.told room.new n ≡ R.told room.old n }
 {
     match command {
-        Command::Check { name, budget } => check(alloc, name, budget, room, out),
-        Command::Obligations { name } => obligations(alloc, name, room, out),
-        Command::Derive { name, budget } => derive(alloc, name, budget, room, out),
-        Command::Verify { name, derivation } => verify(alloc, name, derivation, room, out),
-        Command::Replay { name, schedule } => replay(alloc, name, schedule, room, out),
+        Command::On { name, work } => on_outline(alloc, name, work, room, out),
         Command::Made { statements, budget } => judge_made(alloc, statements, budget, out),
     }
 }
 
-// Judges the outline in the file of this name under a budget of nodes.
-fn check<R: Room, K: Sink>(alloc: Global, name: &str, budget: u32, room: &mut R, out: &mut K) -> u8
-    requires budget { spec.IsBudget budget }
-    ensures ends { Ends (Some (spec.check name.now budget)) (R.told room.old)
-        (R.faults room.old) (R.faults room.new) (R.taken room.old) (R.taken room.new)
-        result (K.written out.old) (K.written out.new) (K.faults out.old) (K.faults out.new) }
-    ensures told { (n : List ℕ) → R.told room.new n ≡ R.told room.old n }
-{
-    match fetched_outline(alloc, name, room, out) {
-        Ok(outline) => judge_outline(alloc, &outline, budget, out),
-        Err(status) => status,
-    }
-}
-
-// Prints the obligations of the outline in the file of this name.
-fn obligations<R: Room, K: Sink>(alloc: Global, name: &str, room: &mut R, out: &mut K) -> u8
-    ensures ends { Ends (Some (spec.obligations name.now)) (R.told room.old)
-        (R.faults room.old) (R.faults room.new) (R.taken room.old) (R.taken room.new)
-        result (K.written out.old) (K.written out.new) (K.faults out.old) (K.faults out.new) }
-    ensures told { (n : List ℕ) → R.told room.new n ≡ R.told room.old n }
-{
-    match fetched_outline(alloc, name, room, out) {
-        Ok(outline) => list_obligations(alloc, &outline, out),
-        Err(status) => status,
-    }
-}
-
-// Judges the outline in the file of this name under a budget of nodes, and writes its derivation.
-fn derive<R: Room, K: Sink>(alloc: Global, name: &str, budget: u32, room: &mut R, out: &mut K) -> u8
-    requires budget { spec.IsBudget budget }
-    ensures ends { Ends (Some (spec.derive name.now budget)) (R.told room.old)
-        (R.faults room.old) (R.faults room.new) (R.taken room.old) (R.taken room.new)
-        result (K.written out.old) (K.written out.new) (K.faults out.old) (K.faults out.new) }
-    ensures told { (n : List ℕ) → R.told room.new n ≡ R.told room.old n }
-{
-    match fetched_outline(alloc, name, room, out) {
-        Ok(outline) => derive_outline(alloc, &outline, budget, out),
-        Err(status) => status,
-    }
-}
-
-// Checks the derivation in the second file against the outline in the first.
-fn verify<R: Room, K: Sink>(
+// Does work on the outline in the file of this name. One function for all work, as letting go of an outline is dear to prove.
+fn on_outline<R: Room, K: Sink>(
     alloc: Global,
     name: &str,
-    derivation: &str,
+    work: Work<'_>,
     room: &mut R,
     out: &mut K,
 ) -> u8
-    ensures ends { Ends (Some (spec.verify name.now derivation.now)) (R.told room.old)
+    requires budget { spec.HasWorkBudget work }
+    ensures ends { Ends (Some (spec.asked_on name.now work.entry)) (R.told room.old)
         (R.faults room.old) (R.faults room.new) (R.taken room.old) (R.taken room.new)
         result (K.written out.old) (K.written out.new) (K.faults out.old) (K.faults out.new) }
     ensures told { (n : List ℕ) → R.told room.new n ≡ R.told room.old n }
 {
     match fetched_outline(alloc, name, room, out) {
-        Ok(outline) => verify_against(alloc, &outline, derivation, room, out),
+        Ok(outline) => work_on(alloc, &outline, work, room, out),
         Err(status) => status,
     }
 }
 
-// Replays the schedule in the second file on the outline in the first.
-fn replay<R: Room, K: Sink>(
+// Does work on an outline.
+fn work_on<R: Room, K: Sink>(
     alloc: Global,
-    name: &str,
-    schedule: &str,
+    outline: &Outline,
+    work: Work<'_>,
     room: &mut R,
     out: &mut K,
 ) -> u8
-    ensures ends { Ends (Some (spec.replay name.now schedule.now)) (R.told room.old)
+    requires budget { spec.HasWorkBudget work }
+    ensures ends { EndsWork work.entry outline.now (R.told room.old)
         (R.faults room.old) (R.faults room.new) (R.taken room.old) (R.taken room.new)
         result (K.written out.old) (K.written out.new) (K.faults out.old) (K.faults out.new) }
     ensures told { (n : List ℕ) → R.told room.new n ≡ R.told room.old n }
 {
-    match fetched_outline(alloc, name, room, out) {
-        Ok(outline) => replay_on(alloc, &outline, schedule, room, out),
-        Err(status) => status,
+    match work {
+        Work::Check { budget } => judge_outline(alloc, outline, budget, out),
+        Work::Obligations => list_obligations(alloc, outline, out),
+        Work::Derive { budget } => derive_outline(alloc, outline, budget, out),
+        Work::Verify { derivation } => verify_against(alloc, outline, derivation, room, out),
+        Work::Replay { schedule } => replay_on(alloc, outline, schedule, room, out),
     }
 }
