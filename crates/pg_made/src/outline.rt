@@ -12,7 +12,7 @@ ghost use Rattle.pg_made.specs.Made as spec;
 use crate::program::{X, Y, made_program};
 use pg_assertion::{CrashAtom, Formula, RawAtom};
 use pg_outline::{Outline, OutlineFault};
-use pg_program::Program;
+use pg_program::{Program, beside};
 use std::alloc::{AllocError, Global};
 
 /// The most statements that each thread of a made outline has.
@@ -33,10 +33,10 @@ fn of_parts(alloc: Global, n: u32) -> Result<Outline, AllocError>
     requires { n ≤ most_statements }
     ensures { IfOk result (λ o. o ≡ spec.made_outline n) }
 {
-    let program = made_program(alloc, n)?;
-    let pre = pre(alloc)?;
     let crash = crash_formula(alloc)?;
-    let notes = notes(alloc, n)?;
+    let (crash, pre) = beside(crash, pre(alloc))?;
+    let ((crash, pre), notes) = beside((crash, pre), notes(alloc, n))?;
+    let (((crash, pre), notes), program) = beside(((crash, pre), notes), made_program(alloc, n))?;
     let outline = outlined(alloc, program, pre, crash, notes)?;
     Ok(outline)
 }

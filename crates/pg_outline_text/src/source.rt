@@ -12,7 +12,7 @@ use crate::word::{Keyword, expect_word};
 use pg_assertion::{CrashAtom, Formula, RawAtom};
 use pg_assertion_text::Tokens;
 use pg_lex::{Sign, TextFault};
-use pg_program::Names;
+use pg_program::{Names, beside};
 use pg_program_text::ThreadText;
 use std::alloc::Global;
 
@@ -51,9 +51,12 @@ fn domain(tokens: &mut Tokens<'_>) -> Result<u32, TextFault>
 fn source_over(alloc: Global, tokens: &mut Tokens<'_>, names: Names) -> Result<Source, TextFault>
     ensures { Reads as_source (spec.outline_over names tokens.old) result tokens.new }
 {
-    let pre = precondition(alloc, tokens, &names)?;
-    let crash = crash_formula(alloc, tokens, &names)?;
-    let threads = threads(alloc, tokens, &names)?;
+    let pre = precondition(alloc, tokens, &names);
+    let (names, pre) = beside(names, pre)?;
+    let crash = crash_formula(alloc, tokens, &names);
+    let ((names, pre), crash) = beside((names, pre), crash)?;
+    let threads = threads(alloc, tokens, &names);
+    let (((names, pre), crash), threads) = beside(((names, pre), crash), threads)?;
     Ok(Source {
         names,
         pre,

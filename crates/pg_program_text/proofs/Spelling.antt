@@ -4,6 +4,7 @@ use Rattle.std.specs.Prelude.{codes}
 use Rattle.std.specs.List.{All}
 use Rattle.std.proofs.lemmas.List.{drop_more, drop-drop}
 use Rattle.std.proofs.lemmas.List.Elements.{All-tail}
+use Rattle.pg_program.specs.declared.syntax.AuxAssign.{AuxAssign}
 use Rattle.pg_program.specs.declared.syntax.Stmt.{Stmt}
 use Rattle.pg_program.specs.NameTable.{NameTable}
 use Rattle.pg_program.specs.Block.{Block, node, block, first_list, second_list}
@@ -11,12 +12,27 @@ use Rattle.pg_program.specs.Graph.{size}
 use Rattle.pg_program.proofs.BlockLemmas.{block-nests}
 use Rattle.pg_assertion.specs.declared.atom.ViewAtom.{ViewAtom}
 use Rattle.pg_assertion.specs.Formula.{Plain}
-use Rattle.pg_program_text.specs.Spelling.{indent, line, note_line, stmt_line, else_line, last_line, stmt_lines, spell_block}
+use Rattle.pg_program_text.specs.Spelling.{spell_assignment, further, indent, line, note_line, stmt_line, else_line, last_line, stmt_lines, spell_block}
 use Rattle.pg_program_text.specs.DeclaredNames.{StmtDeclared, BlockDeclared}
 
 -- one more brace
 pub indent_turn : (depth i : ℕ) → i < depth → indent (depth - i) ≡ codes "  " ++ indent (depth - (i + 1))
 indent_turn depth i h = ap indent (let q : depth - i ≡ suc (depth - (i + 1)) = omega arith in q)
+
+-- one more assignment of a bracket, behind its comma
+pub further_turn : (names : NameTable) (assigns : List AuxAssign) (i : ℕ) (a : AuxAssign) → i < length assigns → a ≡ get_or assigns i a
+    → (into behind next whole : List ℕ) → behind ≡ into ++ codes ", " → next ≡ behind ++ spell_assignment names a → into ++ further names (drop i assigns) ≡ whole
+    → next ++ further names (drop (i + 1) assigns) ≡ whole
+further_turn names assigns i a below is into behind next whole behind_is next_is invariant =
+    let one = spell_assignment names a in
+    let left = further names (drop (i + 1) assigns) in
+    let turn : further names (drop i assigns) ≡ codes ", " ++ (one ++ left) =
+    ap (further names) (drop_more assigns i a below ∙ ap (λ (b : AuxAssign). b ∷ drop (i + 1) assigns) (sym is))
+    in
+    ap (λ (t : List ℕ). t ++ left) (next_is ∙ ap (λ (t : List ℕ). t ++ one) behind_is ∙ append_assoc into (codes ", ") one)
+    ∙ append_assoc into (codes ", " ++ one) left
+    ∙ ap (λ (t : List ℕ). into ++ t) (append_assoc (codes ", ") one left ∙ sym turn)
+    ∙ invariant
 
 -- where the second block is not empty
 pub else_some : (depth : ℕ) (ss : List Stmt) → 1 ≤ length ss → else_line depth (block ss) ≡ line depth (codes "} else {")
