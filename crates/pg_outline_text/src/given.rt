@@ -9,7 +9,7 @@ use crate::word::{Keyword, is_keyword};
 use pg_assertion::{CrashAtom, Formula, RawAtom};
 use pg_assertion_text::{Tokens, parse_crash, parse_formula};
 use pg_lex::{Sign, TextFault};
-use pg_program::Names;
+use pg_program::{Names, beside};
 use std::alloc::Global;
 
 /// A formula of an assertion, and the semicolon after it.
@@ -23,7 +23,7 @@ fn given_formula(
     let mut lexer = tokens.lexer();
     let f = parse_formula(alloc, &mut lexer, names)?;
     tokens.go_to(&lexer);
-    tokens.expect(Sign::Semicolon)?;
+    let (f, _semicolon) = beside(f, tokens.expect(Sign::Semicolon))?;
     Ok(f)
 }
 
@@ -38,7 +38,7 @@ fn given_crash(
     let mut lexer = tokens.lexer();
     let f = parse_crash(alloc, &mut lexer, names)?;
     tokens.go_to(&lexer);
-    tokens.expect(Sign::Semicolon)?;
+    let (f, _semicolon) = beside(f, tokens.expect(Sign::Semicolon))?;
     Ok(f)
 }
 
