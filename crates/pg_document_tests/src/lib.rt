@@ -1,6 +1,6 @@
 //! Tests of the layers that go by texts beside the outline: derivations and their trees, schedules and their replays, and made outlines.
 //!
-//! As in `pg_tests`, a test is a table that was worked out by hand. What a contract says for all inputs is not tested again.
+//! As in `pg_text_tests`, a test is a table that was worked out by hand. What a contract says for all inputs is not tested again.
 #![tactic(auto)]
 
 #[cfg(test)]

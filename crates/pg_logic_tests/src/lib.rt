@@ -1,7 +1,7 @@
 //! Tests of the layers from regions of clauses up to the loading and deciding of obligations, in one crate, so that each layer below is
 //! proved once and not once more for its tests.
 //!
-//! As in `pg_tests`, a test is a table that was worked out by hand. What a contract says for all inputs is not tested again.
+//! As in `pg_text_tests`, a test is a table that was worked out by hand. What a contract says for all inputs is not tested again.
 #![tactic(auto)]
 
 #[cfg(test)]

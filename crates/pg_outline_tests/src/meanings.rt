@@ -127,6 +127,7 @@ const STORED: [&str; 3] = [" K(0)", " K(1)", " K(2)"];
 const EXPECTED: [&str; 3] = [" E(0)", " E(1)", " E(2)"];
 
 /// A step: the states before it and after it, and its event.
+#[derive(Drop)]
 struct Change {
     before: State,
     after: State,
@@ -151,36 +152,43 @@ fn change_after(alloc: Global, p: &Program, count: usize) -> Result<Change, Fail
     })
 }
 
-/// The atoms that hold of the step after so many of the changes, beside those of its sides, each after a blank.
+/// The atoms that hold of a step, beside those of its sides, each after a blank.
+fn atoms_of(alloc: Global, p: &Program, change: &Change) -> Result<String, Fail>
+    requires values { p.now.names.domain ≡ 3 }
+    requires before { IsWellFormed p.now change.now.before.state }
+    requires after { IsWellFormed p.now change.now.after.state }
+    requires thread { HasThread p.now change.now.event }
+{
+    let (before, after, event) = (&change.before, &change.after, change.event);
+    let mut text = String::new(alloc);
+    for v in 0..3 {
+        if holds_step_atom(p, event, before, after, &StepAtom::Value { v }) {
+            text.push_str(STORED[usize::from(v)])?;
+        }
+    }
+    for v in 0..3 {
+        if holds_step_atom(p, event, before, after, &StepAtom::Expected { v }) {
+            text.push_str(EXPECTED[usize::from(v)])?;
+        }
+    }
+    if holds_step_atom(p, event, before, after, &StepAtom::Success) {
+        text.push_str(" S")?;
+    }
+    if holds_step_atom(p, event, before, after, &StepAtom::Taken) {
+        text.push_str(" T")?;
+    }
+    Ok(text)
+}
+
+/// Those of the step after so many of the changes.
 fn atoms_of_change(alloc: Global, p: &Program, count: usize) -> Result<String, Fail>
     requires { count < 4 }
 {
     if p.names().domain() != 3 {
         return Err(Fail::new("the program has another domain"));
     }
-    let Change {
-        before,
-        after,
-        event,
-    } = change_after(alloc, p, count)?;
-    let mut text = String::new(alloc);
-    for v in 0..3 {
-        if holds_step_atom(p, event, &before, &after, &StepAtom::Value { v }) {
-            text.push_str(STORED[usize::from(v)])?;
-        }
-    }
-    for v in 0..3 {
-        if holds_step_atom(p, event, &before, &after, &StepAtom::Expected { v }) {
-            text.push_str(EXPECTED[usize::from(v)])?;
-        }
-    }
-    if holds_step_atom(p, event, &before, &after, &StepAtom::Success) {
-        text.push_str(" S")?;
-    }
-    if holds_step_atom(p, event, &before, &after, &StepAtom::Taken) {
-        text.push_str(" T")?;
-    }
-    Ok(text)
+    let change = change_after(alloc, p, count)?;
+    atoms_of(alloc, p, &change)
 }
 
 #[test]

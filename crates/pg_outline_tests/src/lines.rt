@@ -1,9 +1,12 @@
 //! Two locations on one cache line: the atoms that hold, and what crashes leave of them. A line persists as a whole.
 
+ghost use Rattle.std.specs.Prelude.{map, IfOk};
+ghost use Rattle.pg_program.specs.Program.{AreThreads};
+
 use crate::meanings::{crashed, hold_behind};
 use crate::steps::Line;
 use pg_cases::{agree, thread};
-use pg_program::{NameKind, Names, Program};
+use pg_program::{NameKind, Names, Program, Stmt, beside};
 use pg_views::CrashFault;
 use std::alloc::Global;
 use std::test::Fail;
@@ -51,24 +54,43 @@ N(1,y) N(2,x) O(1,x) O(1,y) O(2,x) F(1,x) F(1,y) F(2,x)";
 /// How many of the steps are taken, and the atoms that hold then.
 static STATES: [(usize, &str); 3] = [(2, WRITTEN), (3, FLUSHED), (4, COMMITTED)];
 
-/// The program of these threads, where x and y stand on one line.
-fn sharing(alloc: Global) -> Result<Program, Fail> {
+/// Names of x and y, which stand on one line.
+fn names(alloc: Global) -> Result<Names, Fail> {
     let mut names = Names::make(alloc, 2, 2);
     names.declare("x", NameKind::Location { init: 0 })?;
     names.declare("y", NameKind::LocationWith { init: 0 })?;
-    let first = thread(alloc, &names, FLUSHES)?;
-    let second = thread(alloc, &names, STORES)?;
-    Ok(Program::build(alloc, names, vec![in alloc; first, second]?)?)
+    Ok(names)
+}
+
+/// Both threads.
+fn threads(alloc: Global, names: &Names) -> Result<Vec<Vec<Stmt>>, Fail>
+    ensures { IfOk result (λ ts. AreThreads names.now (map (λ t. t.items) ts.items)) }
+{
+    let first = thread(alloc, names, FLUSHES)?;
+    let (first, second) = beside(first, thread(alloc, names, STORES))?;
+    Ok(vec![in alloc; first, second]?)
+}
+
+/// The program of these threads and names.
+fn sharing(alloc: Global) -> Result<Program, Fail> {
+    let names = names(alloc)?;
+    let threads = threads(alloc, &names)?;
+    Ok(Program::build(alloc, names, threads)?)
+}
+
+/// Passes where these atoms hold in the states of this program.
+fn hold_so(alloc: Global, p: &Program) -> Result<(), Fail> {
+    for (count, atoms) in &STATES {
+        hold_behind(alloc, p, &STEPS[..*count], *atoms)?;
+    }
+    Ok(())
 }
 
 #[test]
 fn atoms_speak_of_lines(rt: HostRuntime) -> Result<(), Fail> {
     let alloc = rt.alloc();
     let p = sharing(alloc)?;
-    for (count, atoms) in &STATES {
-        hold_behind(alloc, &p, &STEPS[..*count], *atoms)?;
-    }
-    Ok(())
+    hold_so(alloc, &p)
 }
 
 /// Positions of x and y, and the values that a crash leaves at them after both stores, or its fault: the line is cut at the
@@ -118,19 +140,24 @@ fn left(
     }
 }
 
-#[test]
-fn a_line_persists_as_a_whole(rt: HostRuntime) -> Result<(), Fail> {
-    let alloc = rt.alloc();
-    let p = sharing(alloc)?;
+/// Passes where crashes of this program cut the line as a whole.
+fn cut_whole(alloc: Global, p: &Program) -> Result<(), Fail> {
     for (at, wanted) in &CRASHES {
-        let found = left(alloc, &p, &STEPS[..2], *at)?;
+        let found = left(alloc, p, &STEPS[..2], *at)?;
         agree(found == *wanted, true, b"a crash after both stores")?;
     }
-    let found = left(alloc, &p, &STEPS, &LOST)?;
+    let found = left(alloc, p, &STEPS, &LOST)?;
     let fault = CrashFault::Overwritten {
         x: 1,
         position: 0,
         later: 2,
     };
     agree(found, Err(fault), b"a crash after the fence")
+}
+
+#[test]
+fn a_line_persists_as_a_whole(rt: HostRuntime) -> Result<(), Fail> {
+    let alloc = rt.alloc();
+    let p = sharing(alloc)?;
+    cut_whole(alloc, &p)
 }

@@ -4,7 +4,7 @@ use crate::programs::shown;
 use pg_assertion::{Formula, ViewAtom};
 use pg_cases::{Pieces, agree, between, fault_of, on, repeated};
 use pg_outline::{Outline, erase};
-use pg_program::NameRef;
+use pg_program::{NameRef, Program};
 use std::alloc::{AllocError, Global};
 use std::test::Fail;
 
@@ -521,13 +521,18 @@ static MARKED: [(&[u8], &str); 4] = [
 const BEFORE_MARKED: &[u8] =
     b"pierogi 1; values 2; location x = 0; auxiliary e; register r of 1; auxiliary f; thread 1 { ";
 
-/// Passes where an outline without its auxiliaries has these statements and steps, and its register as its only scalar.
-fn is_erased(alloc: Global, o: &Outline, graph: &str) -> Result<(), Fail> {
-    let p = erase(alloc, o)?;
-    let found = shown(alloc, &p)?;
+/// Passes where a program has these statements and steps, and its register as its only scalar.
+fn is_bare(alloc: Global, p: &Program, graph: &str) -> Result<(), Fail> {
+    let found = shown(alloc, p)?;
     agree(found.as_str().trim_end(), graph, graph.as_bytes())?;
     let place = p.names().find("r");
     agree(place == Some(NameRef::Scalar(0)), true, graph.as_bytes())
+}
+
+/// Passes where an outline without its auxiliaries is such a program.
+fn is_erased(alloc: Global, o: &Outline, graph: &str) -> Result<(), Fail> {
+    let p = erase(alloc, o)?;
+    is_bare(alloc, &p, graph)
 }
 
 #[test]
