@@ -138,8 +138,8 @@ module _ {told : List ℕ → Option (List ℕ)} {taken taken_now status : ℕ} 
     schedule_stops stops = document_stops schedule_in (λ x. IsReplayed x o) (schedule_file name) faults faults_now stops.how
 
 -- what was found of a file does not rest on what is taken later
-still : (told : List ℕ → Option (List ℕ)) (taken between taken_now : ℕ) (file : File) (o : OutlineTable) → IsFetched told taken between file o → IsFetched told taken taken_now file o
-still told taken between taken_now file o fetched = record { bytes = fetched.bytes; finds = fetched.finds; stands = fetched.stands }
+found_later : (told : List ℕ → Option (List ℕ)) (taken between taken_now : ℕ) (file : File) (o : OutlineTable) → IsFetched told taken between file o → IsFetched told taken taken_now file o
+found_later told taken between taken_now file o fetched = record { bytes = fetched.bytes; finds = fetched.finds; stands = fetched.stands }
 
 -- the work on the outline that was fetched ends the call; `mid` has the counts of faults before it
 module _ {told later : List ℕ → Option (List ℕ)} {faults mid faults_now : List ℕ → ℕ} {taken between taken_now status : ℕ} {old new : Option (List ℕ)} {before now : ℕ}
@@ -147,9 +147,9 @@ module _ {told later : List ℕ → Option (List ℕ)} {faults mid faults_now : 
     (fetched : IsFetched told taken between (outline_file name) o) where
   pub work_ends : (work : Work) → EndsWork work o later mid faults_now between taken_now status old new before now
       → Ends (Some (asked_on name work)) told faults faults_now taken taken_now status old new before now
-  work_ends (Check budget) puts = record { how = inl (done_puts name (IsJudged IsJudgement budget) o (still told taken between taken_now (outline_file name) o fetched) puts) }
-  work_ends Obligations puts = record { how = inl (done_puts name IsListed o (still told taken between taken_now (outline_file name) o fetched) puts) }
-  work_ends (Derive budget) puts = record { how = inl (done_puts name (IsJudged IsDerived budget) o (still told taken between taken_now (outline_file name) o fetched) puts) }
+  work_ends (Check budget) puts = record { how = inl (done_puts name (IsJudged IsJudgement budget) o (found_later told taken between taken_now (outline_file name) o fetched) puts) }
+  work_ends Obligations puts = record { how = inl (done_puts name IsListed o (found_later told taken between taken_now (outline_file name) o fetched) puts) }
+  work_ends (Derive budget) puts = record { how = inl (done_puts name (IsJudged IsDerived budget) o (found_later told taken between taken_now (outline_file name) o fetched) puts) }
   work_ends (Verify derivation) ends = record {
     how = both_end later name (derivation_file derivation.now) AsDerivation o (same derivation.now) le fetched (mid derivation.now) (grown derivation.now) ends;
   }
